@@ -1,0 +1,148 @@
+-- The table of cases holds: the checker computes every row, and each row is then an equation. Assumes nothing.
+use Prim.Native.Nat.{ℕ}
+use native.Mathlib.Omega.{arith}
+use mathlib.Core.Path.{_≡_, refl, ap, _∙_}
+use mathlib.Core.List.{List, [], _∷_, _++_, List·Memᴰ}
+use mathlib.Core.Bool.{Bool, true, false}
+use lib.Dec.{eqb}
+use borrow.Author.Tests.{eqb-true}
+use Rattle.rules.proofs.Ladder.{all-first, all-rest}
+use Rattle.rules.specs.Choice.{when, anyOf, allOf, differ, below, anyFrom, each}
+use Rattle.rules.specs.Bytes.{byte, word, triple, three, put}
+use Rattle.rules.specs.Tables.{places, volumes, unit, mask, key, asc, ascq, attention, attentionq, volume, source, holder, id, mark, zeroByte, prevents, allowing, preventing, sensed, attended, announcedTo, announced, unitHeld, masked, filled, heldAt, held, theirs, freedAt, freed, inHead, inElements, change, changes}
+use Rattle.rules.specs.Roster.{range, ranges, slots, spread, insert, sorted, roster, kindAt, placeOf, kindOf, firstTransport}
+use Rattle.rules.specs.Sound.{within, countsSound, rangeSound, noOverlap, clear, rangesSound, transportEmpty, sourceSound, markSound, stockSound, holdSound, once, senseSound, attentionSound, headSound, labelsSound, elementsSound, sound}
+use Rattle.rules.specs.Order.{Outcome, after, outcome, fits, good, check, conflict, other, heldByOther, volumeOf, afterAttention, afterUnit, guarded, strayFrom, stray}
+use Rattle.rules.specs.Moves.{readyMasks, moveMasks, exchangeMasks, ready, transportUsed, noTransport, noPlace, leave, carry, moveOf, move, exchangeOf, exchange}
+use Rattle.rules.specs.Holds.{reserveMasks, releaseMasks, ofUnit, descriptors, wrongListLength, reservedBytes, number, address, first, many, unknown, tooMany, meet, namedBefore, wrongAddress, faultsFrom, taken, takes, conflicts, holdsFrom, granted, reserveUnit, reserveElements, reserve, releaseUnit, release, preventMasks, newMask, prevent}
+use Rattle.rules.specs.Sense.{senseMasks, told, tellsAttention, requestSense}
+use Rattle.rules.specs.Listing.{listMasks, withTags, typeCode, keep, ofType, atOrAbove, chosen, flags, sourceStands, label, front, descriptor, width, pageHeader, page, pages, joined, firstAddress, header, headerOf, fitting, returned, chosenBy, pagesOf, listing, readStatus}
+use Rattle.rules.specs.Events.{preventersFrom, preventers, lowestFrom, lowest, noPort, atPort, present, wrongVolume, done, importing, exporting, restartedFrom, resetting}
+use Rattle.rules.specs.Command.{known, steps, groupFits, blockFits, parametersFit, judged, judge, verdict, bufferOf, serve, command, import, export, reset}
+use Rattle.rules.specs.Small.{smallRanges, hostBytes, quiet, senses, awaits, headOf, element, empty, loaded, elementsOf, smallTags, smallBlank, library, quietHead, smallElements, small, moveBlock, exchangeBlock, readBlock, reserveBlock, naming, sends, asks, lentBuffer, ends, checks, refuses}
+use Rattle.rules.specs.Cases.{Case, Name, moves, exchanges, whole12, read12, cuts, tagged, labelled, wholeAll, readAll, failedReserve, ownSense, importAfterReset, shipped, twice, laden, locked, numbers, eventNumbers, stepCases, holdCases, eventCases, cases, same, sameOutcome, wrong}
+
+-- `wrong` with every definition of the rules unfolded. The table is computed in parts that are small enough for an error to name the row.
+tested : List Case → List Name
+unfolding when anyOf allOf differ below anyFrom each byte word triple three put places volumes unit mask key asc ascq attention attentionq volume source holder id mark zeroByte prevents allowing preventing sensed attended announcedTo announced unitHeld masked filled heldAt held theirs freedAt freed inHead inElements change changes range ranges slots spread insert sorted roster kindAt placeOf kindOf firstTransport within countsSound rangeSound noOverlap clear rangesSound transportEmpty sourceSound markSound stockSound holdSound once senseSound attentionSound headSound labelsSound elementsSound sound after outcome fits good check conflict other heldByOther volumeOf afterAttention afterUnit guarded strayFrom stray readyMasks moveMasks exchangeMasks ready transportUsed noTransport noPlace leave carry moveOf move exchangeOf exchange reserveMasks releaseMasks ofUnit descriptors wrongListLength reservedBytes number address first many unknown tooMany meet namedBefore wrongAddress faultsFrom taken takes conflicts holdsFrom granted reserveUnit reserveElements reserve releaseUnit release preventMasks newMask prevent senseMasks told tellsAttention requestSense listMasks withTags typeCode keep ofType atOrAbove chosen flags sourceStands label front descriptor width pageHeader page pages joined firstAddress header headerOf fitting returned chosenBy pagesOf listing readStatus preventersFrom preventers lowestFrom lowest noPort atPort present wrongVolume done importing exporting restartedFrom resetting known steps groupFits blockFits parametersFit judged judge verdict bufferOf serve command import export reset smallRanges hostBytes quiet senses awaits headOf element empty loaded elementsOf smallTags smallBlank library quietHead smallElements small moveBlock exchangeBlock readBlock reserveBlock naming sends asks lentBuffer ends checks refuses moves exchanges whole12 read12 cuts tagged labelled wholeAll readAll failedReserve ownSense importAfterReset shipped twice laden locked numbers eventNumbers stepCases holdCases eventCases cases same sameOutcome wrong
+tested cs = wrong cs
+
+moves-computed : tested moves ≡ []
+unfolding tested
+moves-computed = refl {a = []}
+
+exchanges-computed : tested exchanges ≡ []
+unfolding tested
+exchanges-computed = refl {a = []}
+
+cuts-computed : tested cuts ≡ []
+unfolding tested
+cuts-computed = refl {a = []}
+
+readAll-computed : tested readAll ≡ []
+unfolding tested
+readAll-computed = refl {a = []}
+
+shipped-computed : tested shipped ≡ []
+unfolding tested
+shipped-computed = refl {a = []}
+
+numbers-computed : tested numbers ≡ []
+unfolding tested
+numbers-computed = refl {a = []}
+
+eventNumbers-computed : tested eventNumbers ≡ []
+unfolding tested
+eventNumbers-computed = refl {a = []}
+
+stepCases-computed : tested stepCases ≡ []
+unfolding tested
+stepCases-computed = refl {a = []}
+
+holdCases-computed : tested holdCases ≡ []
+unfolding tested
+holdCases-computed = refl {a = []}
+
+eventCases-computed : tested eventCases ≡ []
+unfolding tested
+eventCases-computed = refl {a = []}
+
+-- ---- the test says what it should: each row is an equation
+
+same-true : (xs ys : List ℕ) → same xs ys ≡ true → xs ≡ ys
+unfolding same when
+same-true [] [] e = refl
+same-true [] (y ∷ ys) e = cc
+same-true (x ∷ xs) [] e = cc
+same-true (x ∷ xs) (y ∷ ys) e = go (same-true xs ys) (eqb x y) refl e
+  where
+    go : (same xs ys ≡ true → xs ≡ ys) → (b : Bool) → eqb x y ≡ b → when b (same xs ys) false ≡ true → x ∷ xs ≡ y ∷ ys
+    go ih true t d = let i = ih d in let j = eqb-true x y t in cc
+    go ih false t d = cc
+
+outcome-is : {o p : Outcome} → o .number ≡ p .number → o .status ≡ p .status → o .count ≡ p .count → o .preventers ≡ p .preventers
+    → o .lowest ≡ p .lowest → o .head ≡ p .head → o .elements ≡ p .elements → o .buffer ≡ p .buffer → o ≡ p
+outcome-is a b c d e f g h =
+    λ i. record { number = a i; status = b i; count = c i; preventers = d i; lowest = e i; head = f i; elements = g i; buffer = h i }
+
+same-outcome : (o p : Outcome) → sameOutcome o p ≡ true → o ≡ p
+unfolding sameOutcome
+same-outcome o p e =
+    let e₁ = all-rest _ _ e in
+    let e₂ = all-rest _ _ e₁ in
+    let e₃ = all-rest _ _ e₂ in
+    let e₄ = all-rest _ _ e₃ in
+    let e₅ = all-rest _ _ e₄ in
+    let e₆ = all-rest _ _ e₅ in
+    let e₇ = all-rest _ _ e₆ in
+    let number : o .number ≡ p .number = eqb-true _ _ (all-first _ _ e) in
+    let status : o .status ≡ p .status = eqb-true _ _ (all-first _ _ e₁) in
+    let count : o .count ≡ p .count = eqb-true _ _ (all-first _ _ e₂) in
+    let preventers : o .preventers ≡ p .preventers = eqb-true _ _ (all-first _ _ e₃) in
+    let lowest : o .lowest ≡ p .lowest = eqb-true _ _ (all-first _ _ e₄) in
+    let head : o .head ≡ p .head = same-true _ _ (all-first _ _ e₅) in
+    let elements : o .elements ≡ p .elements = same-true _ _ (all-first _ _ e₆) in
+    let buffer : o .buffer ≡ p .buffer = same-true _ _ (all-first _ _ e₇) in
+    outcome-is number status count preventers lowest head elements buffer
+
+-- the row holds
+abbrev pub Holds : Case → Type 0
+Holds c = serve (c .on) (c .call) ≡ c .gives
+
+pub data AllHold : List Case → Type 0 where
+  none : AllHold []
+  one : {c : Case} {cs : List Case} → Holds c → AllHold cs → AllHold (c ∷ cs)
+
+none-wrong : (cs : List Case) → wrong cs ≡ [] → AllHold cs
+unfolding wrong when
+none-wrong [] e = none
+none-wrong (c ∷ cs) e = go (none-wrong cs) (sameOutcome (serve (c .on) (c .call)) (c .gives)) refl e
+  where
+    go : (wrong cs ≡ [] → AllHold cs) → (b : Bool) → sameOutcome (serve (c .on) (c .call)) (c .gives) ≡ b → when b (wrong cs) (c .name ∷ wrong cs) ≡ []
+        → AllHold (c ∷ cs)
+    go ih true t d = one (same-outcome _ _ t) (ih d)
+    go ih false t d = absurd (let z : _≡_ {A = ℕ} 0 1 = cc in omega arith)
+
+hold : (cs : List Case) → tested cs ≡ [] → AllHold cs
+unfolding tested
+hold cs e = none-wrong cs e
+
+both : {cs ds : List Case} → AllHold cs → AllHold ds → AllHold (cs ++ ds)
+both none h = h
+both (one e g) h = one e (both g h)
+
+-- P1 to P12, READ all, the errors that were shipped, and a row for each house number, step and command
+pub cases-hold : AllHold cases
+unfolding cases
+cases-hold =
+    both
+    (both (both (both (both (both (both (both (both (hold moves moves-computed)
+    (hold exchanges exchanges-computed))
+    (hold cuts cuts-computed))
+    (hold readAll readAll-computed))
+    (hold shipped shipped-computed))
+    (hold numbers numbers-computed))
+    (hold eventNumbers eventNumbers-computed))
+    (hold stepCases stepCases-computed))
+    (hold holdCases holdCases-computed))
+    (hold eventCases eventCases-computed)

@@ -1,0 +1,5 @@
+pub mod Ladder
+pub mod Writes
+pub mod Cases
+pub mod Places
+pub mod Soundness

@@ -1,0 +1,358 @@
+-- The cases on the small library that document 01 marks for proof, and a row for each error that was shipped: tables, call, and the
+-- outcome whole. Assumes nothing.
+use Prim.Native.Nat.{ℕ}
+use mathlib.Core.List.{List, [], _∷_, _++_}
+use mathlib.Core.Bool.{Bool, true, false}
+use lib.ListN.{replicate, take}
+use lib.Dec.{eqb}
+use Rattle.rules.specs.Choice.{when, allOf}
+use Rattle.rules.specs.Bytes.{high, low}
+use Rattle.rules.specs.Tables.{Tables}
+use Rattle.rules.specs.Order.{Outcome}
+use Rattle.rules.specs.Command.{Call, Import, Export, Reset, serve}
+use Rattle.rules.specs.Small.{quiet, senses, awaits, headOf, element, empty, loaded, elementsOf, library, quietHead, smallElements, small, moveBlock, exchangeBlock, readBlock, reserveBlock, naming, sends, asks, lentBuffer, ends, checks, refuses}
+
+pub data Name : Type 0 where
+  P1 : Name
+  P2 : Name
+  P3 : Name
+  P4 : Name
+  P5 : Name
+  P6-no-element : Name
+  P6-transport : Name
+  P7 : Name
+  P8 : Name
+  P9 : Name
+  P10 : Name
+  P11 : Name
+  P12 : Name
+  P12-cut-47 : Name
+  P12-cut-32 : Name
+  P12-cut-31 : Name
+  P12-cut-8 : Name
+  P12-cut-7 : Name
+  READ-all : Name
+  failed-RESERVE-frees-nothing : Name
+  sense-of-another-host-stays : Name
+  reset-is-told-before-import : Name
+  number-1 : Name
+  number-2 : Name
+  number-3 : Name
+  number-4 : Name
+  number-5 : Name
+  number-6 : Name
+  number-7 : Name
+  number-8-import : Name
+  number-8-export : Name
+  number-9 : Name
+  unknown-first-byte : Name
+  attention-told-once : Name
+  unit-of-another-host : Name
+  REQUEST-SENSE-clears : Name
+  PREVENT : Name
+  RESERVE-supersedes : Name
+  RESERVE-names-twice : Name
+  RESERVE-unit : Name
+  RELEASE-unit : Name
+  RELEASE-id : Name
+  export-takes-away : Name
+  reset-frees-all : Name
+
+pub record Case : Type 0 where
+  pub name : Name
+  pub on : Tables
+  pub call : Call
+  pub gives : Outcome
+
+-- ---- P1 to P11: "Host 1, transport 0."
+
+unfoldable pub moves : List Case
+moves =
+    -- "P1 MOVE 1000h to 0100h: GOOD, drive has volume 1, source 1000h."
+    record {
+      name = P1;
+      on = small;
+      call = asks (moveBlock 0x1000 0x0100);
+      gives = ends 0x00 0 quietHead (elementsOf empty (element 1 0x1000 0 0 0) empty empty (loaded 2) empty) [];
+    }
+    -- "P2 MOVE 1001h to 0100h: 5/3B/0E. P3 1000h to 1002h: 5/3B/0D. P4 1000h to 1000h: 5/3B/0D. P5 1001h to 1001h: 5/3B/0E."
+    ∷ record { name = P2; on = small; call = asks (moveBlock 0x1001 0x0100); gives = checks 5 0x3B 0x0E }
+    ∷ record { name = P3; on = small; call = asks (moveBlock 0x1000 0x1002); gives = checks 5 0x3B 0x0D }
+    ∷ record { name = P4; on = small; call = asks (moveBlock 0x1000 0x1000); gives = checks 5 0x3B 0x0D }
+    ∷ record { name = P5; on = small; call = asks (moveBlock 0x1001 0x1001); gives = checks 5 0x3B 0x0E }
+    -- "P6 1000h to 1004h or 0001h: 5/21/01."
+    ∷ record { name = P6-no-element; on = small; call = asks (moveBlock 0x1000 0x1004); gives = checks 5 0x21 0x01 }
+    ∷ record { name = P6-transport; on = small; call = asks (moveBlock 0x1000 0x0001); gives = checks 5 0x21 0x01 }
+    ∷ []
+
+unfoldable pub exchanges : List Case
+exchanges =
+    -- "P7 EXCHANGE 1000h, 1002h, 1000h: swapped; sources 1002h at 1000h, 1000h at 1002h."
+    record {
+      name = P7;
+      on = small;
+      call = asks (exchangeBlock 0x1000 0x1002 0x1000);
+      gives = ends 0x00 0 quietHead (elementsOf empty empty (element 2 0x1002 0 0 0) empty (element 1 0x1000 0 0 0) empty) [];
+    }
+    -- "P8 EXCHANGE 1000h, 1000h, 1001h: 5/21/01. P9 1000h, 1002h, 1002h: 5/3B/0D. P10 1000h, 1001h, 1003h: 5/3B/0E."
+    ∷ record { name = P8; on = small; call = asks (exchangeBlock 0x1000 0x1000 0x1001); gives = checks 5 0x21 0x01 }
+    ∷ record { name = P9; on = small; call = asks (exchangeBlock 0x1000 0x1002 0x1002); gives = checks 5 0x3B 0x0D }
+    ∷ record { name = P10; on = small; call = asks (exchangeBlock 0x1000 0x1001 0x1003); gives = checks 5 0x3B 0x0E }
+    -- "P11 host 2 holds 1002h, MOVE 1000h to 1002h: 18h."
+    ∷ (let elements = elementsOf empty empty (loaded 1) empty (element 2 0 2 0 0) empty in
+    record { name = P11; on = library quietHead elements; call = asks (moveBlock 0x1000 0x1002); gives = ends 0x18 0 quietHead elements [] })
+    ∷ []
+
+-- ---- P12 and its cuts
+
+-- "`10 00 00 02 00 00 00 28 02 00 00 10 00 00 00 20 10 00 09`, thirteen 00, `10 01 08`, thirteen 00"
+unfoldable pub whole12 : List ℕ
+whole12 =
+    (0x10 ∷ 0x00 ∷ 0x00 ∷ 0x02 ∷ 0x00 ∷ 0x00 ∷ 0x00 ∷ 0x28 ∷ 0x02 ∷ 0x00 ∷ 0x00 ∷ 0x10 ∷ 0x00 ∷ 0x00 ∷ 0x00 ∷ 0x20 ∷ 0x10 ∷ 0x00 ∷ 0x09 ∷ [])
+    ++ replicate 13 0x00 ++ (0x10 ∷ 0x01 ∷ 0x08 ∷ []) ++ replicate 13 0x00
+
+-- "READ type 2, start 0, two elements, no tags" with an allocation, into 50 bytes: so many of the whole answer's bytes are returned, and
+-- the other bytes stay
+unfoldable pub read12 : Name → ℕ → ℕ → ℕ → Case
+read12 name allocation count kept =
+    record {
+      name = name;
+      on = small;
+      call = sends 1 (readBlock 2 2 allocation) [] (lentBuffer 50);
+      gives = ends 0x00 count quietHead smallElements (take count whole12 ++ lentBuffer kept);
+    }
+
+-- "allocation 48, whole .. Allocation 47 or 32 returns 32 bytes; 31 or 8 returns 8; 7 returns 7."
+unfoldable pub cuts : List Case
+cuts =
+    read12 P12 48 48 2
+    ∷ read12 P12-cut-47 47 32 18
+    ∷ read12 P12-cut-32 32 32 18
+    ∷ read12 P12-cut-31 31 8 42
+    ∷ read12 P12-cut-8 8 8 42
+    ∷ read12 P12-cut-7 7 7 43
+    ∷ []
+
+-- a page header with tags: type, and the byte count of its descriptors of 34h bytes
+unfoldable pub tagged : ℕ → ℕ → List ℕ
+tagged kind bytes = kind ∷ 0x80 ∷ 0x00 ∷ 0x34 ∷ 0x00 ∷ 0x00 ∷ 0x00 ∷ bytes ∷ []
+
+-- a descriptor with tags and no source: address, flags, the byte that its label repeats
+unfoldable pub labelled : ℕ → ℕ → ℕ → List ℕ
+labelled address flags letter = (high address ∷ low address ∷ flags ∷ []) ++ replicate 9 0x00 ++ replicate 36 letter ++ replicate 4 0x00
+
+-- "READ all, tags, FFFFh elements: 7 elements, count 18Ch, 404 bytes."
+unfoldable pub wholeAll : List ℕ
+wholeAll =
+    (0x00 ∷ 0x01 ∷ 0x00 ∷ 0x07 ∷ 0x00 ∷ 0x00 ∷ 0x01 ∷ 0x8C ∷ [])
+    ++ tagged 1 0x34 ++ labelled 0x0001 0x00 0x20
+    ++ tagged 3 0x34 ++ labelled 0x0010 0x38 0x20
+    ++ tagged 4 0x34 ++ labelled 0x0100 0x08 0x20
+    ++ tagged 2 0xD0 ++ labelled 0x1000 0x09 0x41 ++ labelled 0x1001 0x08 0x20 ++ labelled 0x1002 0x09 0x42 ++ labelled 0x1003 0x08 0x20
+
+unfoldable pub readAll : List Case
+readAll =
+    record {
+      name = READ-all;
+      on = small;
+      call = sends 1 (readBlock 0x10 0xFFFF 1000) [] (lentBuffer 405);
+      gives = ends 0x00 404 quietHead smallElements (wholeAll ++ lentBuffer 1);
+    }
+    ∷ []
+
+-- ---- "Errors we have shipped": counts cut to the allocation (P12's cuts) and a swap that writes before reading (P7) stand above
+
+-- "A failed RESERVE that had already freed the old id."
+unfoldable pub failedReserve : Case
+failedReserve =
+    let elements = elementsOf empty empty (element 1 0 1 5 0) empty (element 2 0 2 0 0) empty in
+    record {
+      name = failed-RESERVE-frees-nothing;
+      on = library quietHead elements;
+      call = sends 1 (reserveBlock 5 12) (naming 1 0x1001 ++ naming 1 0x1002) [];
+      gives = ends 0x18 0 quietHead elements [];
+    }
+
+-- "A sense record shared by all hosts."
+unfoldable pub ownSense : Case
+ownSense =
+    record {
+      name = sense-of-another-host-stays;
+      on = library (headOf 0 0 (senses 5 0x24 0x00) quiet quiet) smallElements;
+      call = sends 2 (moveBlock 0x1001 0x0100) [] [];
+      gives = ends 0x02 0 (headOf 0 0 (senses 5 0x24 0x00) (senses 5 0x3B 0x0E) quiet) smallElements [];
+    }
+
+-- "Import setting attention over 29h/00h."
+unfoldable pub importAfterReset : Case
+importAfterReset =
+    record {
+      name = reset-is-told-before-import;
+      on = library (headOf 0 0 (awaits 0x29 0x00) quiet quiet) smallElements;
+      call = Import 0x0010 3;
+      gives =
+          ends 0x00 0 (headOf 0 0 (awaits 0x29 0x00) (awaits 0x28 0x01) (awaits 0x28 0x01))
+          (elementsOf (element 3 0 0 0 1) empty (loaded 1) empty (loaded 2) empty) [];
+    }
+
+unfoldable pub shipped : List Case
+shipped = failedReserve ∷ ownSense ∷ importAfterReset ∷ []
+
+-- ---- the house numbers
+
+-- volume 2 twice
+unfoldable pub twice : Tables
+twice = library quietHead (elementsOf empty empty (loaded 2) empty (loaded 2) empty)
+
+-- a volume in the import/export element, put there by a person
+unfoldable pub laden : Tables
+laden = library quietHead (elementsOf (element 3 0 0 0 1) empty (loaded 1) empty (loaded 2) empty)
+
+-- hosts 3 and 8 prevent removal
+unfoldable pub locked : Tables
+locked = library (headOf 0 0x84 quiet quiet quiet) smallElements
+
+unfoldable pub numbers : List Case
+numbers =
+    record { name = number-1; on = twice; call = sends 0 [] [] (lentBuffer 1); gives = refuses 1 twice (lentBuffer 1) }
+    ∷ record { name = number-2; on = small; call = sends 257 [] [] []; gives = refuses 2 small [] }
+    ∷ record { name = number-3; on = small; call = asks (0xA5 ∷ []); gives = refuses 3 small [] }
+    ∷ record { name = number-4; on = small; call = sends 1 (moveBlock 0x1000 0x0100) (0 ∷ []) []; gives = refuses 4 small [] }
+    ∷ record { name = number-5; on = small; call = sends 1 (readBlock 2 2 47) [] (lentBuffer 31); gives = refuses 5 small (lentBuffer 31) }
+    ∷ []
+
+unfoldable pub eventNumbers : List Case
+eventNumbers =
+    record { name = number-6; on = small; call = Import 0x1001 3; gives = refuses 6 small [] }
+    ∷ record {
+      name = number-7;
+      on = locked;
+      call = Export 0x0010;
+      gives =
+          record { number = 7; status = 0; count = 0; preventers = 2; lowest = 3; head = locked .head; elements = locked .elements; buffer = [] };
+    }
+    ∷ record { name = number-8-import; on = laden; call = Import 0x0010 3; gives = refuses 8 laden [] }
+    ∷ record { name = number-8-export; on = small; call = Export 0x0010; gives = refuses 8 small [] }
+    ∷ record { name = number-9; on = small; call = Import 0x0010 2; gives = refuses 9 small [] }
+    ∷ []
+
+-- ---- the steps and the other commands, one row each
+
+unfoldable pub stepCases : List Case
+stepCases =
+    record {
+      name = unknown-first-byte;
+      on = library (headOf 0 0 (awaits 0x28 0x01) quiet quiet) smallElements;
+      call = asks (0x12 ∷ 0 ∷ 0 ∷ 0 ∷ 0 ∷ 0 ∷ []);
+      gives = ends 0x02 0 (headOf 0 0 (record { key = 5; asc = 0x20; ascq = 0x00; attention = 0x28; attentionq = 0x01 }) quiet quiet) smallElements [];
+    }
+    ∷ record {
+      name = attention-told-once;
+      on = library (headOf 2 0 (awaits 0x28 0x01) quiet quiet) smallElements;
+      call = asks (moveBlock 0x1000 0x0100);
+      gives = ends 0x02 0 (headOf 2 0 (senses 6 0x28 0x01) quiet quiet) smallElements [];
+    }
+    ∷ record {
+      name = unit-of-another-host;
+      on = library (headOf 2 0 (senses 5 0x24 0x00) quiet quiet) smallElements;
+      call = asks (0x00 ∷ 0 ∷ 0 ∷ 0 ∷ 0 ∷ 0xFF ∷ []);
+      gives = ends 0x18 0 (headOf 2 0 quiet quiet quiet) smallElements [];
+    }
+    ∷ record {
+      name = REQUEST-SENSE-clears;
+      on = library (headOf 2 0 (record { key = 5; asc = 0x3B; ascq = 0x0D; attention = 0x29; attentionq = 0x00 }) quiet quiet) smallElements;
+      call = sends 1 (0x03 ∷ 0 ∷ 0 ∷ 0 ∷ 14 ∷ 0 ∷ []) [] (lentBuffer 15);
+      gives =
+          ends 0x00 14 (headOf 2 0 (awaits 0x29 0x00) quiet quiet) smallElements
+          (0x70 ∷ 0 ∷ 5 ∷ 0 ∷ 0 ∷ 0 ∷ 0 ∷ 0x0A ∷ 0 ∷ 0 ∷ 0 ∷ 0 ∷ 0x3B ∷ 0x0D ∷ 0xEE ∷ []);
+    }
+    ∷ []
+
+unfoldable pub holdCases : List Case
+holdCases =
+    record {
+      name = PREVENT;
+      on = locked;
+      call = asks (0x1E ∷ 0 ∷ 0 ∷ 0 ∷ 1 ∷ 0 ∷ []);
+      gives = ends 0x00 0 (headOf 0 0x85 quiet quiet quiet) smallElements [];
+    }
+    ∷ record {
+      name = RESERVE-supersedes;
+      on = library quietHead (elementsOf empty empty (element 1 0 1 5 0) empty (element 2 0 1 6 0) empty);
+      call = sends 1 (reserveBlock 5 6) (naming 2 0x0100) [];
+      gives = ends 0x00 0 quietHead (elementsOf empty (element 0 0 1 5 0) (element 1 0 1 5 0) empty (element 2 0 1 6 0) empty) [];
+    }
+    ∷ record {
+      name = RESERVE-names-twice;
+      on = small;
+      call = sends 1 (reserveBlock 5 12) (naming 0 0x1002 ++ naming 1 0x1003) [];
+      gives = checks 5 0x21 0x01;
+    }
+    ∷ record {
+      name = RESERVE-unit;
+      on = small;
+      call = asks (0x16 ∷ 0 ∷ 9 ∷ 0 ∷ 0 ∷ 0 ∷ []);
+      gives = ends 0x00 0 (headOf 1 0 quiet quiet quiet) smallElements [];
+    }
+    ∷ record {
+      name = RELEASE-unit;
+      on = library (headOf 1 0 quiet quiet quiet) (elementsOf empty empty (element 1 0 1 5 0) (element 0 0 1 6 0) (loaded 2) empty);
+      call = asks (0x17 ∷ 0 ∷ 9 ∷ 0 ∷ 0 ∷ 0 ∷ []);
+      gives = ends 0x00 0 quietHead smallElements [];
+    }
+    ∷ record {
+      name = RELEASE-id;
+      on = library (headOf 1 0 quiet quiet quiet) (elementsOf empty empty (element 1 0 1 5 0) (element 0 0 1 6 0) (loaded 2) empty);
+      call = asks (0x17 ∷ 1 ∷ 6 ∷ 0 ∷ 0 ∷ 0 ∷ []);
+      gives = ends 0x00 0 (headOf 1 0 quiet quiet quiet) (elementsOf empty empty (element 1 0 1 5 0) empty (loaded 2) empty) [];
+    }
+    ∷ []
+
+unfoldable pub eventCases : List Case
+eventCases =
+    record {
+      name = export-takes-away;
+      on = library (headOf 0 0 quiet (awaits 0x28 0x01) quiet) (elementsOf (element 3 0x1001 2 7 0) empty (loaded 1) empty (loaded 2) empty);
+      call = Export 0x0010;
+      gives =
+          ends 0x00 0 (headOf 0 0 (awaits 0x28 0x01) (awaits 0x28 0x01) (awaits 0x28 0x01))
+          (elementsOf (element 0 0 2 7 0) empty (loaded 1) empty (loaded 2) empty) [];
+    }
+    ∷ record {
+      name = reset-frees-all;
+      on = library (headOf 2 0x84 (senses 5 0x24 0x00) (awaits 0x28 0x01) quiet) (elementsOf (element 3 0 2 7 1) empty (element 1 0x0100 2 0 0) empty (loaded 2) empty);
+      call = Reset;
+      gives =
+          ends 0x00 0 (headOf 0 0 (awaits 0x29 0x00) (awaits 0x29 0x00) (awaits 0x29 0x00))
+          (elementsOf (element 3 0 0 0 1) empty (element 1 0x0100 0 0 0) empty (loaded 2) empty) [];
+    }
+    ∷ []
+
+-- "P1 to P12 are one table", with the rows above
+unfoldable pub cases : List Case
+cases = moves ++ exchanges ++ cuts ++ readAll ++ shipped ++ numbers ++ eventNumbers ++ stepCases ++ holdCases ++ eventCases
+
+-- ---- the test over all rows: the names of those whose outcome is another
+
+unfoldable pub same : List ℕ → List ℕ → Bool
+same [] [] = true
+same [] (y ∷ ys) = false
+same (x ∷ xs) [] = false
+same (x ∷ xs) (y ∷ ys) = when (eqb x y) (same xs ys) false
+
+unfoldable pub sameOutcome : Outcome → Outcome → Bool
+sameOutcome o p =
+    allOf
+    (eqb (o .number) (p .number)
+    ∷ eqb (o .status) (p .status)
+    ∷ eqb (o .count) (p .count)
+    ∷ eqb (o .preventers) (p .preventers)
+    ∷ eqb (o .lowest) (p .lowest)
+    ∷ same (o .head) (p .head)
+    ∷ same (o .elements) (p .elements)
+    ∷ same (o .buffer) (p .buffer)
+    ∷ [])
+
+unfoldable pub wrong : List Case → List Name
+wrong [] = []
+wrong (c ∷ cs) = when (sameOutcome (serve (c .on) (c .call)) (c .gives)) (wrong cs) (c .name ∷ wrong cs)

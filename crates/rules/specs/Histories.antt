@@ -1,0 +1,127 @@
+-- Calls one after the other, mixings of two hosts' commands, and the volumes that come and go: the words of "How promises are judged" and
+-- of demand 3. Assumes nothing.
+use Prim.Native.Nat.{ℕ, zero, suc, _+_}
+use mathlib.Core.Path.{_≡_}
+use mathlib.Core.List.{List, [], _∷_, List·Memᴰ}
+use mathlib.Core.Bool.{Bool, true}
+use lib.Dec.{eqb}
+use Rattle.rules.specs.Choice.{when, anyOf}
+use Rattle.rules.specs.Bytes.{byte, word}
+use Rattle.rules.specs.Tables.{Tables, lent, volume}
+use Rattle.rules.specs.Order.{Outcome, after, volumeOf}
+use Rattle.rules.specs.Command.{Request, Call, Command, Import, Export, Reset, verdict, serve, operation, TEST-UNIT-READY, REQUEST-SENSE, MOVE-MEDIUM, EXCHANGE-MEDIUM}
+
+-- ---- calls one after the other, by the rules
+
+-- the tables after a call, and after a list of calls
+unfoldable pub next : Tables → Call → Tables
+next t c = after (verdict t c) t
+
+unfoldable pub run : Tables → List Call → Tables
+run t [] = t
+run t (c ∷ cs) = run (next t c) cs
+
+unfoldable pub outcomes : Tables → List Call → List Outcome
+outcomes t [] = []
+outcomes t (c ∷ cs) = serve t c ∷ outcomes (next t c) cs
+
+-- ---- calls one after the other, as a core answers them: each outcome is the one that an entry's statement names, and the next call
+-- finds the tables that this one left
+
+abbrev pub leaves : Outcome → Tables → Tables
+leaves o t = lent (o .head) (o .elements) (t .tags) (t .blank)
+
+-- from tables, these calls with these outcomes, to tables
+pub data History : Tables → List Call → List Outcome → Tables → Type 0 where
+  begun : {t : Tables} → History t [] [] t
+  called : {t u : Tables} {c : Call} {o : Outcome} {cs : List Call} {os : List Outcome}
+      → o ≡ serve t c → History (leaves o t) cs os u → History t (c ∷ cs) (o ∷ os) u
+
+-- ---- "the volumes present equal those loaded plus imports less exports, read from the history"
+
+-- 1 where the two are equal, else 0
+unfoldable pub one : ℕ → ℕ → ℕ
+one v w = when (eqb v w) 1 0
+
+-- how often the volume number w stands at the first n places
+unfoldable pub times : ℕ → List ℕ → ℕ → ℕ
+times w elements zero = 0
+times w elements (suc n) = one (volume elements n) w + times w elements n
+
+-- of one call on tables, with its outcome: w imported, w exported
+unfoldable pub imported : ℕ → Tables → Call → Outcome → ℕ
+imported w t (Command r) o = 0
+imported w t (Import a v) o = when (eqb (o .number) 0) (one v w) 0
+imported w t (Export a) o = 0
+imported w t Reset o = 0
+
+unfoldable pub exported : ℕ → Tables → Call → Outcome → ℕ
+exported w t (Command r) o = 0
+exported w t (Import a v) o = 0
+exported w t (Export a) o = when (eqb (o .number) 0) (one (volumeOf t a) w) 0
+exported w t Reset o = 0
+
+-- of a history
+unfoldable pub imports : {t u : Tables} {cs : List Call} {os : List Outcome} → ℕ → History t cs os u → ℕ
+imports w begun = 0
+imports w (called {t = t} {c = c} {o = o} e hs) = imported w t c o + imports w hs
+
+unfoldable pub exports : {t u : Tables} {cs : List Call} {os : List Outcome} → ℕ → History t cs os u → ℕ
+exports w begun = 0
+exports w (called {t = t} {c = c} {o = o} e hs) = exported w t c o + exports w hs
+
+-- ---- demand 3
+
+-- what a host is told: all of an outcome but the tables
+pub record Reply : Type 0 where
+  pub number : ℕ
+  pub status : ℕ
+  pub count : ℕ
+  pub buffer : List ℕ
+
+unfoldable pub reply : Outcome → Reply
+reply o = record { number = o .number; status = o .status; count = o .count; buffer = o .buffer }
+
+-- requests one after the other, and the replies that host h gets
+unfoldable pub runRequests : Tables → List Request → Tables
+runRequests t [] = t
+runRequests t (r ∷ rs) = runRequests (next t (Command r)) rs
+
+unfoldable pub replies : ℕ → Tables → List Request → List Reply
+replies h t [] = []
+replies h t (r ∷ rs) =
+    when (eqb (r .host) h) (reply (serve t (Command r)) ∷ replies h (next t (Command r)) rs) (replies h (next t (Command r)) rs)
+
+-- "every mixing that keeps each host's order": zs has the requests of xs and of ys, each list in its own order
+pub data Mixing : List Request → List Request → List Request → Type 0 where
+  none : Mixing [] [] []
+  left : {x : Request} {xs ys zs : List Request} → Mixing xs ys zs → Mixing (x ∷ xs) ys (x ∷ zs)
+  right : {y : Request} {xs ys zs : List Request} → Mixing xs ys zs → Mixing xs (y ∷ ys) (y ∷ zs)
+
+-- "moves, exchanges, readiness tests and sense requests"
+unfoldable pub mixes : List ℕ → Bool
+mixes block =
+    anyOf
+    (eqb (operation block) TEST-UNIT-READY
+    ∷ eqb (operation block) REQUEST-SENSE
+    ∷ eqb (operation block) MOVE-MEDIUM
+    ∷ eqb (operation block) EXCHANGE-MEDIUM
+    ∷ [])
+
+-- the source and destination addresses that a block names
+unfoldable pub named : List ℕ → List ℕ
+named block =
+    when (eqb (operation block) MOVE-MEDIUM) (word block 4 ∷ word block 6 ∷ [])
+    (when (eqb (operation block) EXCHANGE-MEDIUM) (word block 4 ∷ word block 6 ∷ word block 8 ∷ []) [])
+
+-- each request is host h's, and one of the four commands
+pub data From (h : ℕ) : List Request → Type 0 where
+  end : From h []
+  more : {r : Request} {rs : List Request} → r .host ≡ h → mixes (r .block) ≡ true → From h rs → From h (r ∷ rs)
+
+abbrev pub Disjoint : List ℕ → List ℕ → Type 0
+Disjoint xs ys = (a : ℕ) → List·Memᴰ a xs → List·Memᴰ a ys → ⊥
+
+-- "over disjoint addresses": no address of one list stands in the other
+abbrev pub Apart : List Request → List Request → Type 0
+Apart xs ys = (x y : Request) → List·Memᴰ x xs → List·Memᴰ y ys → Disjoint (named (x .block)) (named (y .block))

@@ -1,0 +1,15 @@
+pub mod Choice
+pub mod Bytes
+pub mod Tables
+pub mod Roster
+pub mod Sound
+pub mod Order
+pub mod Moves
+pub mod Holds
+pub mod Sense
+pub mod Listing
+pub mod Events
+pub mod Command
+pub mod Histories
+pub mod Small
+pub mod Cases
