@@ -7,24 +7,16 @@ use mathlib.Core.Bool.{Bool, true, false}
 use lib.Dec.{eqb}
 use borrow.Author.Tests.{eqb-true}
 use Rattle.rules.proofs.Ladder.{all-first, all-rest}
-use Rattle.rules.specs.Choice.{when, anyOf, allOf, differ, below, anyFrom, each}
-use Rattle.rules.specs.Bytes.{byte, word, triple, three, put}
-use Rattle.rules.specs.Tables.{places, volumes, unit, mask, key, asc, ascq, attention, attentionq, volume, source, holder, id, mark, zeroByte, prevents, allowing, preventing, sensed, attended, announcedTo, announced, unitHeld, masked, filled, heldAt, held, theirs, freedAt, freed, inHead, inElements, change, changes}
-use Rattle.rules.specs.Roster.{range, ranges, slots, spread, insert, sorted, roster, kindAt, placeOf, kindOf, firstTransport}
-use Rattle.rules.specs.Sound.{within, countsSound, rangeSound, noOverlap, clear, rangesSound, transportEmpty, sourceSound, markSound, stockSound, holdSound, once, senseSound, attentionSound, headSound, labelsSound, elementsSound, sound}
-use Rattle.rules.specs.Order.{Outcome, after, outcome, fits, good, check, conflict, other, heldByOther, volumeOf, afterAttention, afterUnit, guarded, strayFrom, stray}
-use Rattle.rules.specs.Moves.{readyMasks, moveMasks, exchangeMasks, ready, transportUsed, noTransport, noPlace, leave, carry, moveOf, move, exchangeOf, exchange}
-use Rattle.rules.specs.Holds.{reserveMasks, releaseMasks, ofUnit, descriptors, wrongListLength, reservedBytes, number, address, first, many, unknown, tooMany, meet, namedBefore, wrongAddress, faultsFrom, taken, takes, conflicts, holdsFrom, granted, reserveUnit, reserveElements, reserve, releaseUnit, release, preventMasks, newMask, prevent}
-use Rattle.rules.specs.Sense.{senseMasks, told, tellsAttention, requestSense}
-use Rattle.rules.specs.Listing.{listMasks, withTags, typeCode, keep, ofType, atOrAbove, chosen, flags, sourceStands, label, front, descriptor, width, pageHeader, page, pages, joined, firstAddress, header, headerOf, fitting, returned, chosenBy, pagesOf, listing, readStatus}
-use Rattle.rules.specs.Events.{preventersFrom, preventers, lowestFrom, lowest, noPort, atPort, present, wrongVolume, done, importing, exporting, restartedFrom, resetting}
-use Rattle.rules.specs.Command.{known, steps, groupFits, blockFits, parametersFit, judged, judge, verdict, bufferOf, serve, command, import, export, reset}
-use Rattle.rules.specs.Small.{smallRanges, hostBytes, quiet, senses, awaits, headOf, element, empty, loaded, elementsOf, smallTags, smallBlank, library, quietHead, smallElements, small, moveBlock, exchangeBlock, readBlock, reserveBlock, naming, sends, asks, lentBuffer, ends, checks, refuses}
+use Rattle.rules.proofs.Opened.{opened}
+use Rattle.rules.specs.Choice.{when}
+use Rattle.rules.specs.Order.{Outcome}
+use Rattle.rules.specs.Command.{serve}
+use Rattle.rules.specs.Small.{ends, checks, refuses}
 use Rattle.rules.specs.Cases.{Case, Name, moves, exchanges, whole12, read12, cuts, tagged, labelled, wholeAll, readAll, failedReserve, ownSense, importAfterReset, shipped, twice, laden, locked, numbers, eventNumbers, stepCases, holdCases, eventCases, cases, same, sameOutcome, wrong}
 
--- `wrong` with every definition of the rules unfolded. The table is computed in parts that are small enough for an error to name the row.
+-- `wrong` with every definition open. The table is computed in parts that are small enough for an error to name the row.
 tested : List Case → List Name
-unfolding when anyOf allOf differ below anyFrom each byte word triple three put places volumes unit mask key asc ascq attention attentionq volume source holder id mark zeroByte prevents allowing preventing sensed attended announcedTo announced unitHeld masked filled heldAt held theirs freedAt freed inHead inElements change changes range ranges slots spread insert sorted roster kindAt placeOf kindOf firstTransport within countsSound rangeSound noOverlap clear rangesSound transportEmpty sourceSound markSound stockSound holdSound once senseSound attentionSound headSound labelsSound elementsSound sound after outcome fits good check conflict other heldByOther volumeOf afterAttention afterUnit guarded strayFrom stray readyMasks moveMasks exchangeMasks ready transportUsed noTransport noPlace leave carry moveOf move exchangeOf exchange reserveMasks releaseMasks ofUnit descriptors wrongListLength reservedBytes number address first many unknown tooMany meet namedBefore wrongAddress faultsFrom taken takes conflicts holdsFrom granted reserveUnit reserveElements reserve releaseUnit release preventMasks newMask prevent senseMasks told tellsAttention requestSense listMasks withTags typeCode keep ofType atOrAbove chosen flags sourceStands label front descriptor width pageHeader page pages joined firstAddress header headerOf fitting returned chosenBy pagesOf listing readStatus preventersFrom preventers lowestFrom lowest noPort atPort present wrongVolume done importing exporting restartedFrom resetting known steps groupFits blockFits parametersFit judged judge verdict bufferOf serve command import export reset smallRanges hostBytes quiet senses awaits headOf element empty loaded elementsOf smallTags smallBlank library quietHead smallElements small moveBlock exchangeBlock readBlock reserveBlock naming sends asks lentBuffer ends checks refuses moves exchanges whole12 read12 cuts tagged labelled wholeAll readAll failedReserve ownSense importAfterReset shipped twice laden locked numbers eventNumbers stepCases holdCases eventCases cases same sameOutcome wrong
+unfolding opened ends checks refuses moves exchanges whole12 read12 cuts tagged labelled wholeAll readAll failedReserve ownSense importAfterReset shipped twice laden locked numbers eventNumbers stepCases holdCases eventCases cases same sameOutcome wrong
 tested cs = wrong cs
 
 moves-computed : tested moves ≡ []

@@ -252,6 +252,17 @@ unfolding each
 each-keeps P f zero i xs k p = p
 each-keeps P f (suc n) i xs k p = each-keeps P f n (suc i) (f i xs) (λ j ys l m. k j ys (omega arith) (omega arith)) (k i xs (omega arith) (omega arith) p)
 
+-- what the step at p turns from P to Q, and no other step undoes
+pub each-at : (P Q : List ℕ → Type 0) (f : ℕ → List ℕ → List ℕ) (n i p : ℕ) (xs : List ℕ) → i ≤ p → p < i + n
+    → ((j : ℕ) (ys : List ℕ) → j ≢ p → P ys → P (f j ys)) → ((ys : List ℕ) → P ys → Q (f p ys))
+    → ((j : ℕ) (ys : List ℕ) → j ≢ p → Q ys → Q (f j ys)) → P xs → Q (each f n i xs)
+unfolding each
+each-at P Q f zero i p xs l h before there after x = absurd (omega arith)
+each-at P Q f (suc n) i p xs l h before there after x =
+    either i p
+    (λ e. each-keeps Q f n (suc i) (f i xs) (λ j ys k m. after j ys (omega arith)) (rw e (there xs x)))
+    (λ d. each-at P Q f n (suc i) p (f i xs) (omega arith) (omega arith) before there after (before i xs d x))
+
 -- the last of so many steps
 each-suc : (f : ℕ → List ℕ → List ℕ) (n i : ℕ) (xs : List ℕ) → each f (suc n) i xs ≡ f (i + n) (each f n i xs)
 unfolding each

@@ -1,5 +1,5 @@
 -- The roster: addresses, places and types in it, how long it is, and which bytes of the head it is read from. Assumes nothing.
-use Prim.Native.Nat.{ℕ, zero, suc, _+_, _*_, _<_, _≤_}
+use Prim.Native.Nat.{ℕ, zero, suc, _+_, _<_, _≤_}
 use native.Mathlib.Omega.{arith}
 use mathlib.Core.Path.{_≡_, refl, sym, ap, _∙_}
 use mathlib.Core.Logic.{_≢_}
@@ -9,9 +9,10 @@ use lib.ListN.{length, length-append}
 use lib.Dec.{eqb, leb}
 use borrow.Author.Tests.{eqb-true}
 use Rattle.rules.specs.Choice.{when}
-use Rattle.rules.specs.Bytes.{byte, word}
+use Rattle.rules.specs.Bytes.{byte, word, put}
 use Rattle.rules.specs.Tables.{rangeAt, unitAt}
 use Rattle.rules.specs.Roster.{Range, Slot, range, ranges, slots, spread, insert, sorted, roster, kindAt, placeOf, kindOf, drive}
+use Rattle.rules.proofs.Writes.{byte-put}
 
 -- ---- the place of an address that stands
 
@@ -178,3 +179,7 @@ ranges-same head head′ s = cc (r 0 (omega arith), r 1 (omega arith), r 2 (omeg
 pub roster-same : (head head′ : List ℕ) → SameRanges head head′ → roster head′ ≡ roster head
 unfolding roster
 roster-same head head′ s = cc (ranges-same head head′ s)
+
+-- a write from the unit holder's byte on
+pub roster-put : (head : List ℕ) (i : ℕ) (bytes : List ℕ) → unitAt ≤ i → roster (put head i bytes) ≡ roster head
+roster-put head i bytes h = roster-same head (put head i bytes) (λ j l. byte-put head i j bytes (λ k m. omega arith))

@@ -1,0 +1,52 @@
+-- `changer::smc_reset` meets its contract. Assumes nothing.
+use mathlib.Core.Path.{refl, sym, _∙_}
+use borrow.Author.Tests.{not-true, not-false}
+use Rattle.rules.specs.Tables.{lent}
+use Rattle.rules.specs.Events.{resetting}
+use Rattle.rules.proofs.Ladder.{no}
+use Rattle.changer.proofs.Ends.{number-ends, reset-is}
+use borrow.Author.Needs.{needs}
+use Rattle.changer.proofs.smc_reset.Statement.{statement}
+use Rattle.changer.proofs.smc_reset.Tie as tie
+
+sound-requires : tie.Need-sound-requires
+sound-requires c κs = search needs
+
+numbered-requires : tie.Need-numbered-requires
+numbered-requires c κs = search needs
+
+same-length : tie.Need-same-length
+same-length c = search needs
+
+same-length-2 : tie.Need-same-length-2
+same-length-2 c = search needs
+
+returns : tie.Need-returns
+unfolding resetting
+returns c = number-ends (lent _ _ _ _) _ 1 _ _ (c .numbered .ensures) (no _ _ _ _ _ (c .before .before .sound .ensures) (not-true _ (c .before .if1 .taken)) refl) ∙ reset-is _
+
+reset-requires : tie.Need-reset-requires
+reset-requires c κs = sym (c .before .before .before .sound .ensures) ∙ not-false _ (c .before .before .if1 .left)
+
+same-length-3 : tie.Need-same-length-3
+same-length-3 c = search needs
+
+same-length-4 : tie.Need-same-length-4
+same-length-4 c = search needs
+
+returns-2 : tie.Need-returns-2
+returns-2 c = c .before .before .before .before .reset .ensures ∙ reset-is _
+
+pub smc-reset-spec : {M : Type 1} → statement M
+smc-reset-spec =
+    tie.close
+    (tie.spec
+    sound-requires
+    numbered-requires
+    same-length
+    same-length-2
+    returns
+    reset-requires
+    same-length-3
+    same-length-4
+    returns-2)

@@ -1,0 +1,203 @@
+// The order of judging, and the entries that a C front end calls. An entry asks nothing of its caller: any bytes, any lengths, any numbers.
+pub mod judging;
+pub mod serving;
+pub mod steps;
+
+use order::Reply;
+ghost use mathlib.Core.Path.{_≡_};
+ghost use mathlib.Core.List.{[]};
+ghost use Rattle.rules.specs.Tables.{lent};
+ghost use Rattle.rules.specs.Command.{command, import, export, reset};
+ghost use Rattle.order.specs.Ending.{ended};
+
+#[no_mangle]
+pub extern "C" fn smc_command<'a>(
+    head: &mut [u8],
+    elements: &mut [u8],
+    tags: &'a [u8],
+    blank: &'a [u8],
+    host: u32,
+    block: &[u8],
+    parameters: &[u8],
+    answer: &mut [u8],
+) -> Reply
+    ensures { λ r. ⌜ ended r (now (head .exit)) (now (elements .exit)) (now (answer .exit)) ≡ command (lent (now (head .entry)) (now (elements .entry)) (now (tags .entry)) (now (blank .entry))) host (now (block .entry)) (now (parameters .entry)) (now (answer .entry)) ⌝ }
+{
+    serving::serve(head, elements, tags, blank, host, block, parameters, answer)
+}
+
+#[no_mangle]
+pub extern "C" fn smc_test_unit_ready<'a>(
+    head: &mut [u8],
+    elements: &mut [u8],
+    tags: &'a [u8],
+    blank: &'a [u8],
+    host: u32,
+    block: &[u8],
+    parameters: &[u8],
+    answer: &mut [u8],
+) -> Reply
+    ensures { λ r. ⌜ ended r (now (head .exit)) (now (elements .exit)) (now (answer .exit)) ≡ command (lent (now (head .entry)) (now (elements .entry)) (now (tags .entry)) (now (blank .entry))) host (now (block .entry)) (now (parameters .entry)) (now (answer .entry)) ⌝ }
+{
+    serving::serve(head, elements, tags, blank, host, block, parameters, answer)
+}
+
+#[no_mangle]
+pub extern "C" fn smc_request_sense<'a>(
+    head: &mut [u8],
+    elements: &mut [u8],
+    tags: &'a [u8],
+    blank: &'a [u8],
+    host: u32,
+    block: &[u8],
+    parameters: &[u8],
+    answer: &mut [u8],
+) -> Reply
+    ensures { λ r. ⌜ ended r (now (head .exit)) (now (elements .exit)) (now (answer .exit)) ≡ command (lent (now (head .entry)) (now (elements .entry)) (now (tags .entry)) (now (blank .entry))) host (now (block .entry)) (now (parameters .entry)) (now (answer .entry)) ⌝ }
+{
+    serving::serve(head, elements, tags, blank, host, block, parameters, answer)
+}
+
+#[no_mangle]
+pub extern "C" fn smc_reserve<'a>(
+    head: &mut [u8],
+    elements: &mut [u8],
+    tags: &'a [u8],
+    blank: &'a [u8],
+    host: u32,
+    block: &[u8],
+    parameters: &[u8],
+    answer: &mut [u8],
+) -> Reply
+    ensures { λ r. ⌜ ended r (now (head .exit)) (now (elements .exit)) (now (answer .exit)) ≡ command (lent (now (head .entry)) (now (elements .entry)) (now (tags .entry)) (now (blank .entry))) host (now (block .entry)) (now (parameters .entry)) (now (answer .entry)) ⌝ }
+{
+    serving::serve(head, elements, tags, blank, host, block, parameters, answer)
+}
+
+#[no_mangle]
+pub extern "C" fn smc_release<'a>(
+    head: &mut [u8],
+    elements: &mut [u8],
+    tags: &'a [u8],
+    blank: &'a [u8],
+    host: u32,
+    block: &[u8],
+    parameters: &[u8],
+    answer: &mut [u8],
+) -> Reply
+    ensures { λ r. ⌜ ended r (now (head .exit)) (now (elements .exit)) (now (answer .exit)) ≡ command (lent (now (head .entry)) (now (elements .entry)) (now (tags .entry)) (now (blank .entry))) host (now (block .entry)) (now (parameters .entry)) (now (answer .entry)) ⌝ }
+{
+    serving::serve(head, elements, tags, blank, host, block, parameters, answer)
+}
+
+#[no_mangle]
+pub extern "C" fn smc_prevent_allow<'a>(
+    head: &mut [u8],
+    elements: &mut [u8],
+    tags: &'a [u8],
+    blank: &'a [u8],
+    host: u32,
+    block: &[u8],
+    parameters: &[u8],
+    answer: &mut [u8],
+) -> Reply
+    ensures { λ r. ⌜ ended r (now (head .exit)) (now (elements .exit)) (now (answer .exit)) ≡ command (lent (now (head .entry)) (now (elements .entry)) (now (tags .entry)) (now (blank .entry))) host (now (block .entry)) (now (parameters .entry)) (now (answer .entry)) ⌝ }
+{
+    serving::serve(head, elements, tags, blank, host, block, parameters, answer)
+}
+
+#[no_mangle]
+pub extern "C" fn smc_move_medium<'a>(
+    head: &mut [u8],
+    elements: &mut [u8],
+    tags: &'a [u8],
+    blank: &'a [u8],
+    host: u32,
+    block: &[u8],
+    parameters: &[u8],
+    answer: &mut [u8],
+) -> Reply
+    ensures { λ r. ⌜ ended r (now (head .exit)) (now (elements .exit)) (now (answer .exit)) ≡ command (lent (now (head .entry)) (now (elements .entry)) (now (tags .entry)) (now (blank .entry))) host (now (block .entry)) (now (parameters .entry)) (now (answer .entry)) ⌝ }
+{
+    serving::serve(head, elements, tags, blank, host, block, parameters, answer)
+}
+
+#[no_mangle]
+pub extern "C" fn smc_exchange_medium<'a>(
+    head: &mut [u8],
+    elements: &mut [u8],
+    tags: &'a [u8],
+    blank: &'a [u8],
+    host: u32,
+    block: &[u8],
+    parameters: &[u8],
+    answer: &mut [u8],
+) -> Reply
+    ensures { λ r. ⌜ ended r (now (head .exit)) (now (elements .exit)) (now (answer .exit)) ≡ command (lent (now (head .entry)) (now (elements .entry)) (now (tags .entry)) (now (blank .entry))) host (now (block .entry)) (now (parameters .entry)) (now (answer .entry)) ⌝ }
+{
+    serving::serve(head, elements, tags, blank, host, block, parameters, answer)
+}
+
+#[no_mangle]
+pub extern "C" fn smc_read_element_status<'a>(
+    head: &mut [u8],
+    elements: &mut [u8],
+    tags: &'a [u8],
+    blank: &'a [u8],
+    host: u32,
+    block: &[u8],
+    parameters: &[u8],
+    answer: &mut [u8],
+) -> Reply
+    ensures { λ r. ⌜ ended r (now (head .exit)) (now (elements .exit)) (now (answer .exit)) ≡ command (lent (now (head .entry)) (now (elements .entry)) (now (tags .entry)) (now (blank .entry))) host (now (block .entry)) (now (parameters .entry)) (now (answer .entry)) ⌝ }
+{
+    serving::serve(head, elements, tags, blank, host, block, parameters, answer)
+}
+
+#[no_mangle]
+pub extern "C" fn smc_import<'a>(
+    head: &mut [u8],
+    elements: &mut [u8],
+    tags: &'a [u8],
+    blank: &'a [u8],
+    address: u32,
+    volume: u32,
+) -> Reply
+    ensures { λ r. ⌜ ended r (now (head .exit)) (now (elements .exit)) [] ≡ import (lent (now (head .entry)) (now (elements .entry)) (now (tags .entry)) (now (blank .entry))) address volume ⌝ }
+{
+    if !sound::sound(head, elements, tags, blank) {
+        return order::numbered(1);
+    }
+    events::import(head, elements, tags, blank, address, volume)
+}
+
+#[no_mangle]
+pub extern "C" fn smc_export<'a>(
+    head: &mut [u8],
+    elements: &mut [u8],
+    tags: &'a [u8],
+    blank: &'a [u8],
+    address: u32,
+) -> Reply
+    ensures { λ r. ⌜ ended r (now (head .exit)) (now (elements .exit)) [] ≡ export (lent (now (head .entry)) (now (elements .entry)) (now (tags .entry)) (now (blank .entry))) address ⌝ }
+{
+    if !sound::sound(head, elements, tags, blank) {
+        return order::numbered(1);
+    }
+    events::export(head, elements, tags, blank, address)
+}
+
+#[no_mangle]
+pub extern "C" fn smc_reset<'a>(
+    head: &mut [u8],
+    elements: &mut [u8],
+    tags: &'a [u8],
+    blank: &'a [u8],
+) -> Reply
+    ensures { λ r. ⌜ ended r (now (head .exit)) (now (elements .exit)) [] ≡ reset (lent (now (head .entry)) (now (elements .entry)) (now (tags .entry)) (now (blank .entry))) ⌝ }
+{
+    if !sound::sound(head, elements, tags, blank) {
+        return order::numbered(1);
+    }
+    events::reset(head, elements, tags, blank)
+}

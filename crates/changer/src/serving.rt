@@ -1,0 +1,45 @@
+// House numbers 1 to 5, in their order, round the steps.
+use order::Reply;
+ghost use mathlib.Core.Path.{_≡_};
+ghost use Rattle.rules.specs.Tables.{lent};
+ghost use Rattle.rules.specs.Command.{command};
+ghost use Rattle.order.specs.Ending.{ended};
+
+// Any command: house numbers 1 to 4, then the steps, then number 5.
+pub fn serve<'a>(
+    head: &mut [u8],
+    elements: &mut [u8],
+    tags: &'a [u8],
+    blank: &'a [u8],
+    host: u32,
+    block: &[u8],
+    parameters: &[u8],
+    answer: &mut [u8],
+) -> Reply
+    ensures { λ r. ⌜ ended r (now (head .exit)) (now (elements .exit)) (now (answer .exit)) ≡ command (lent (now (head .entry)) (now (elements .entry)) (now (tags .entry)) (now (blank .entry))) host (now (block .entry)) (now (parameters .entry)) (now (answer .entry)) ⌝ }
+{
+    let whole = sound::sound(head, elements, tags, blank);
+    let known = super::judging::known_host(host);
+    if !whole {
+        return order::numbered(1);
+    }
+    if !known {
+        return order::numbered(2);
+    }
+    if !super::judging::block_fits(block) {
+        return order::numbered(3);
+    }
+    if !super::judging::parameters_fit(block, parameters) {
+        return order::numbered(4);
+    }
+    super::steps::steps(
+        head,
+        elements,
+        tags,
+        blank,
+        host as u8,
+        block,
+        parameters,
+        answer,
+    )
+}

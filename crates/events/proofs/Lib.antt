@@ -1,0 +1,4 @@
+pub mod Turns
+pub mod Ports
+pub mod Judging
+pub mod Resets

@@ -1,0 +1,50 @@
+-- `events::reset` meets its contract. Assumes nothing.
+use native.Mathlib.Omega.{arith}
+use Rattle.events.proofs.Judging.{head-length}
+use Rattle.events.proofs.Resets.{reset-ends}
+use borrow.Author.Needs.{needs}
+use Rattle.events.proofs.reset.Statement.{statement}
+use Rattle.events.proofs.reset.Tie as tie
+
+hold-unit-requires : tie.Need-hold-unit-requires
+hold-unit-requires c κs = head-length _ (c .before .before .before .before .before .pre)
+
+free-all-requires : tie.Need-free-all-requires
+free-all-requires c κs = search needs
+
+set-mask-requires : tie.Need-set-mask-requires
+set-mask-requires c κs = omega (arith, head-length _ (c .before .before .before .before .before .before .before .before .before .before .before .before .before .pre))
+
+restart-requires : tie.Need-restart-requires
+restart-requires c κs = omega (arith, head-length _ (c .before .before .before .before .before .before .before .before .before .before .before .before .before .before .before .before .before .pre))
+
+told-requires : tie.Need-told-requires
+told-requires c κs = search needs
+
+same-length : tie.Need-same-length
+same-length c = search needs
+
+same-length-2 : tie.Need-same-length-2
+same-length-2 c = search needs
+
+returns : tie.Need-returns
+returns c =
+    let restarted = c .before .before .before in
+    let allowed = restarted .before .before .before .before in
+    let freed = allowed .before .before .before .before in
+    let unheld = freed .before .before .before .before in
+    let began = unheld .before .before .before .before .before .before in
+    reset-ends _ _ _ _ _ (unheld .hold-unit .ensures) (freed .free-all .ensures) (allowed .set-mask .ensures) (restarted .restart .ensures) (began .pre) _ (c .told .ensures)
+
+pub reset-spec : {M : Type 1} → statement M
+reset-spec =
+    tie.close
+    (tie.spec
+    hold-unit-requires
+    free-all-requires
+    set-mask-requires
+    restart-requires
+    told-requires
+    same-length
+    same-length-2
+    returns)

@@ -1,0 +1,36 @@
+-- Import and export as the code judges them, and what each answer means in the rules. Assumes nothing.
+use Prim.Native.Nat.{ℕ, _<_}
+use mathlib.Core.List.{List, [], _∷_}
+use Rattle.rules.specs.Choice.{when, differ}
+use Rattle.rules.specs.Tables.{lent, Fill, Announce, changes}
+use Rattle.rules.specs.Roster.{Slot, placeOf, kindOf, port}
+use Rattle.rules.specs.Order.{Verdict, Number, Prevented}
+use Rattle.rules.specs.Events.{preventers, lowest, done, restartedFrom}
+use Rattle.tables.specs.declared.Found.{Found}
+use Rattle.tables.specs.declared.Found.the-variants.{At, Nothing}
+use Rattle.events.specs.declared.Ruling.{Ruling}
+use Rattle.events.specs.declared.Ruling.the-variants as ruling
+
+-- look-up of an import/export element
+unfoldable pub portAt : List Slot → ℕ → Found
+portAt ss a = when (differ (kindOf ss a) port) Nothing (At (placeOf ss a))
+
+-- number 7 by a mask that is not 0
+abbrev pub preventedBy : ℕ → Ruling
+preventedBy m = ruling.Prevented (preventers m) (lowest m)
+
+-- what an answer means: "a definition gives this paper's number and values for each case"
+unfoldable pub meaning : Ruling → Verdict
+meaning (ruling.Number n) = Number n
+meaning (ruling.Prevented n h) = Prevented n h
+meaning (ruling.Fill p v m) = done (Fill p v 0 m ∷ Announce 0x28 0x01 ∷ [])
+
+-- an element to fill is one of the n
+abbrev pub Within : ℕ → Ruling → Type 0
+Within n (ruling.Number k) = Unit {0}
+Within n (ruling.Prevented k h) = Unit {0}
+Within n (ruling.Fill p v m) = p < n
+
+-- the head after one host's changes of a reset
+unfoldable pub restartedAt : ℕ → List ℕ → List ℕ
+restartedAt h head = changes (restartedFrom 1 h) (lent head [] [] []) .head

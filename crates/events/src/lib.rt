@@ -1,0 +1,259 @@
+// The three events: import, export and reset. House number 1 is judged before they are called; numbers 6 to 9 are judged here.
+use order::Reply;
+use tables::Found;
+ghost use mathlib.Core.Path.{_≡_};
+ghost use mathlib.Core.Bool.{true};
+ghost use mathlib.Core.List.{List, []};
+ghost use Prim.Native.Nat.{ℕ, _*_, _≤_};
+ghost use lib.ListN.{length};
+ghost use Rattle.rules.specs.Tables.{headSize, elementSize, hosts, places, volumes, lent, changes, announcedTo, announced, freed, Anyone};
+ghost use Rattle.rules.specs.Roster.{roster};
+ghost use Rattle.rules.specs.Sound.{sound};
+ghost use Rattle.rules.specs.Order.{outcome};
+ghost use Rattle.rules.specs.Events.{present as presentIn, wrongVolume, importing, exporting, restartedFrom, resetting};
+ghost use Rattle.order.specs.Ending.{ended};
+ghost use Rattle.events.specs.Judged.{portAt, preventedBy, restartedAt, meaning, Within};
+
+// "3 import/export"
+const PORT: u8 = 3;
+
+// "host 1 to 8"
+const HOSTS: u8 = 8;
+
+// What import or export comes to: a house number, number 7 with how many hosts prevent removal and the lowest such host, or an element
+// to fill with a volume (0 empties it) and a mark.
+pub enum Ruling {
+    Number(u8),
+    Prevented(u8, u8),
+    Fill { place: usize, volume: u16, mark: u8 },
+}
+
+// The place of an import/export element.
+fn port_at(head: &[u8], address: u32) -> Found
+    requires { ⌜ headSize ≤ length (now head) ⌝ }
+    ensures { λ r. ⌜ r ≡ portAt (roster (now (head .entry))) address ⌝ }
+{
+    let rs = tables::ranges(head);
+    let Found::At(place) = tables::find(rs, address) else {
+        return Found::Nothing;
+    };
+    if tables::kind_at(rs, place) == PORT {
+        return Found::At(place);
+    }
+    Found::Nothing
+}
+
+// "how many hosts prevent removal and the lowest such host"
+fn prevented(mask: u8) -> Ruling
+    requires { ⌜ (mask ≡ 0 → ⊥) ⌝ }
+    ensures { λ r. ⌜ r ≡ preventedBy mask ⌝ }
+{
+    Ruling::Prevented(tables::mask::preventers(mask), tables::mask::lowest(mask))
+}
+
+// "already in the library"
+fn present(elements: &[u8], volume: u32) -> bool
+    ensures { λ r. ⌜ r ≡ presentIn (now (elements .entry)) volume ⌝ }
+{
+    let n = tables::element::places(elements);
+    let mut place: usize = 0;
+    while place < n {
+        if tables::element::volume(elements, place) as u32 == volume {
+            return true;
+        }
+        place += 1;
+    }
+    false
+}
+
+// "volume number 0, above V, or already in the library"
+fn wrong_volume(elements: &[u8], tags: &[u8], volume: u32) -> bool
+    ensures { λ r. ⌜ ((head blank : List ℕ) → r ≡ wrongVolume (lent head (now (elements .entry)) (now (tags .entry)) blank) volume) ⌝ }
+{
+    if volume == 0 {
+        return true;
+    }
+    if tables::volumes(tags) < volume as usize {
+        return true;
+    }
+    present(elements, volume)
+}
+
+// Import, judged by reading only: numbers 6 to 9 in this order.
+fn judge_import(head: &[u8], elements: &[u8], tags: &[u8], address: u32, volume: u32) -> Ruling
+    requires { ⌜ headSize ≤ length (now head) ⌝ }
+    requires { ⌜ length (now elements) ≡ elementSize * length (roster (now head)) ⌝ }
+    requires { ⌜ volumes (now tags) ≤ 512 ⌝ }
+    ensures { λ r. ⌜ ((blank : List ℕ) → sound (lent (now (head .entry)) (now (elements .entry)) (now (tags .entry)) blank) ≡ true → meaning r ≡ importing (lent (now (head .entry)) (now (elements .entry)) (now (tags .entry)) blank) address volume) ⌝ }
+    ensures { λ r. ⌜ Within (places (now (elements .entry))) r ⌝ }
+{
+    let Found::At(place) = port_at(head, address) else {
+        return Ruling::Number(6);
+    };
+    let mask = tables::head::mask(head);
+    if mask != 0 {
+        return prevented(mask);
+    }
+    if tables::element::volume(elements, place) != 0 {
+        return Ruling::Number(8);
+    }
+    if wrong_volume(elements, tags, volume) {
+        return Ruling::Number(9);
+    }
+    Ruling::Fill {
+        place,
+        volume: volume as u16,
+        mark: 1,
+    }
+}
+
+// Export, judged by reading only: numbers 6 to 8 in this order.
+fn judge_export(head: &[u8], elements: &[u8], address: u32) -> Ruling
+    requires { ⌜ headSize ≤ length (now head) ⌝ }
+    requires { ⌜ length (now elements) ≡ elementSize * length (roster (now head)) ⌝ }
+    ensures { λ r. ⌜ ((tags blank : List ℕ) → sound (lent (now (head .entry)) (now (elements .entry)) tags blank) ≡ true → meaning r ≡ exporting (lent (now (head .entry)) (now (elements .entry)) tags blank) address) ⌝ }
+    ensures { λ r. ⌜ Within (places (now (elements .entry))) r ⌝ }
+{
+    let Found::At(place) = port_at(head, address) else {
+        return Ruling::Number(6);
+    };
+    let mask = tables::head::mask(head);
+    if mask != 0 {
+        return prevented(mask);
+    }
+    if tables::element::volume(elements, place) == 0 {
+        return Ruling::Number(8);
+    }
+    Ruling::Fill {
+        place,
+        volume: 0,
+        mark: 0,
+    }
+}
+
+// One host's attention, if it has none.
+fn announce_to(head: &mut [u8], host: u8, asc: u8, ascq: u8)
+    requires { ⌜ headSize ≤ length (now head) ⌝ }
+    requires { ⌜ host ≤ hosts ⌝ }
+    ensures { λ _. ⌜ now (head .exit) ≡ announcedTo asc ascq host (now (head .entry)) ⌝ }
+{
+    if tables::head::attention(head, host) == 0 {
+        tables::head::attend(head, host, asc, ascq);
+    }
+}
+
+// "set attention .. for each host with none"
+fn announce(head: &mut [u8], asc: u8, ascq: u8)
+    requires { ⌜ headSize ≤ length (now head) ⌝ }
+    ensures { λ _. ⌜ now (head .exit) ≡ announced (now (head .entry)) asc ascq ⌝ }
+{
+    let mut host: u8 = 1;
+    while host <= HOSTS {
+        announce_to(head, host, asc, ascq);
+        host += 1;
+    }
+}
+
+// What was judged is carried out.
+fn settle(head: &mut [u8], elements: &mut [u8], ruling: Ruling) -> Reply
+    requires { ⌜ headSize ≤ length (now head) ⌝ }
+    requires { ⌜ Within (places (now elements)) ruling ⌝ }
+    ensures { λ r. ⌜ ((tags blank : List ℕ) → ended r (now (head .exit)) (now (elements .exit)) [] ≡ outcome (lent (now (head .entry)) (now (elements .entry)) tags blank) [] (meaning ruling)) ⌝ }
+{
+    match ruling {
+        Ruling::Number(number) => order::numbered(number),
+        Ruling::Prevented(preventers, lowest) => Reply {
+            number: 7,
+            status: 0,
+            preventers,
+            lowest,
+            count: 0,
+        },
+        Ruling::Fill {
+            place,
+            volume,
+            mark,
+        } => {
+            tables::element::fill(elements, place, volume, 0, mark);
+            announce(head, 0x28, 0x01);
+            order::told(0x00, 0)
+        }
+    }
+}
+
+// "Import fills an element with source 0, mark 1"
+pub fn import<'a>(
+    head: &mut [u8],
+    elements: &mut [u8],
+    tags: &'a [u8],
+    blank: &'a [u8],
+    address: u32,
+    volume: u32,
+) -> Reply
+    requires { ⌜ sound (lent (now head) (now elements) (now tags) (now blank)) ≡ true ⌝ }
+    ensures { λ r. ⌜ ended r (now (head .exit)) (now (elements .exit)) [] ≡ outcome (lent (now (head .entry)) (now (elements .entry)) (now (tags .entry)) (now (blank .entry))) [] (importing (lent (now (head .entry)) (now (elements .entry)) (now (tags .entry)) (now (blank .entry))) address volume) ⌝ }
+{
+    let ruling = judge_import(head, elements, tags, address, volume);
+    settle(head, elements, ruling)
+}
+
+// "export empties it, mark 0, source 0"
+pub fn export<'a>(
+    head: &mut [u8],
+    elements: &mut [u8],
+    tags: &'a [u8],
+    blank: &'a [u8],
+    address: u32,
+) -> Reply
+    requires { ⌜ sound (lent (now head) (now elements) (now tags) (now blank)) ≡ true ⌝ }
+    ensures { λ r. ⌜ ended r (now (head .exit)) (now (elements .exit)) [] ≡ outcome (lent (now (head .entry)) (now (elements .entry)) (now (tags .entry)) (now (blank .entry))) [] (exporting (lent (now (head .entry)) (now (elements .entry)) (now (tags .entry)) (now (blank .entry))) address) ⌝ }
+{
+    let ruling = judge_export(head, elements, address);
+    settle(head, elements, ruling)
+}
+
+// "frees all reservations": those of the elements
+fn free_all(elements: &mut [u8])
+    ensures { λ _. ⌜ now (elements .exit) ≡ freed Anyone (now (elements .entry)) ⌝ }
+{
+    let n = tables::element::places(elements);
+    let mut place: usize = 0;
+    while place < n {
+        tables::element::hold(elements, place, 0, 0);
+        place += 1;
+    }
+}
+
+// "clears .. sense, sets attention 29h/00h": of one host
+fn restart_host(head: &mut [u8], host: u8)
+    requires { ⌜ headSize ≤ length (now head) ⌝ }
+    requires { ⌜ host ≤ hosts ⌝ }
+    ensures { λ _. ⌜ now (head .exit) ≡ restartedAt host (now (head .entry)) ⌝ }
+{
+    tables::head::note(head, host, 0, 0, 0);
+    tables::head::attend(head, host, 0x29, 0x00);
+}
+
+// "for all"
+fn restart(head: &mut [u8])
+    requires { ⌜ headSize ≤ length (now head) ⌝ }
+    ensures { λ _. ⌜ ((elements tags blank : List ℕ) → lent (now (head .exit)) elements tags blank ≡ changes (restartedFrom hosts 1) (lent (now (head .entry)) elements tags blank)) ⌝ }
+{
+    let mut host: u8 = 1;
+    while host <= HOSTS {
+        restart_host(head, host);
+        host += 1;
+    }
+}
+
+// "Reset frees all reservations, clears mask and sense, sets attention 29h/00h for all; volumes stay."
+pub fn reset<'a>(head: &mut [u8], elements: &mut [u8], tags: &'a [u8], blank: &'a [u8]) -> Reply
+    requires { ⌜ sound (lent (now head) (now elements) (now tags) (now blank)) ≡ true ⌝ }
+    ensures { λ r. ⌜ ended r (now (head .exit)) (now (elements .exit)) [] ≡ outcome (lent (now (head .entry)) (now (elements .entry)) (now (tags .entry)) (now (blank .entry))) [] (resetting (lent (now (head .entry)) (now (elements .entry)) (now (tags .entry)) (now (blank .entry)))) ⌝ }
+{
+    tables::head::hold_unit(head, 0);
+    free_all(elements);
+    tables::head::set_mask(head, 0);
+    restart(head);
+    order::told(0x00, 0)
+}

@@ -1,0 +1,6 @@
+pub mod Choosing
+pub mod Fitting
+pub mod Counted
+pub mod Stages
+pub mod Whole
+pub mod Ends

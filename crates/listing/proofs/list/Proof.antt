@@ -1,0 +1,91 @@
+-- `listing::list` meets its contract. Assumes nothing.
+use mathlib.Core.Path.{_≡_, _∙_}
+use native.Mathlib.Omega.{arith}
+use lib.ListN.{length, length-map}
+use Rattle.tables.specs.Ranges.{meaning, meant}
+use Rattle.listing.specs.Counting.{counted, outset, Within}
+use Rattle.listing.proofs.Whole.{begins-within, added-length, last-within, short-answers, long-answers, long-refused}
+use borrow.Author.Needs.{needs}
+use Rattle.listing.proofs.list.Statement.{statement}
+use Rattle.listing.proofs.list.Tie as tie
+
+-- the counts are those of all four ranges
+last : (c : tie.After-count)
+    → (let s = c .before .before .before .before .before .before in c .count .result ≡ counted (s .args .q) (outset (s .args .most) (s .args .room)) (meant (s .args .rs)))
+last c = rw (c .before .begin .ensures) at (c .count .ensures)
+
+four : (c : tie.Start) → length (meant (c .args .rs)) ≡ 4
+unfolding meant
+four c = let n : length (c .args .rs) ≡ 4 = search needs in length-map (c .args .rs) meaning ∙ n
+
+within : (c : tie.After-count) → Within 4 (c .count .result)
+within c =
+    let s = c .before .before .before .before .before .before in
+    last-within (s .args .q) _ (meant (s .args .rs)) (s .args .most) (s .args .room) (s .pre .1) _ (last c) (four s) (s .pre .0 .0) (s .pre .0 .1)
+
+begin-requires : tie.Need-begin-requires
+begin-requires c κs = search needs
+
+count-requires : tie.Need-count-requires
+count-requires c κs = ((c .before .before .before .before .before .pre .0 .0, c .before .before .before .before .before .pre .1 .inside), rw (c .begin .ensures) (begins-within _ _ (c .before .before .before .before .before .pre .0 .1)))
+
+shortened-requires : tie.Need-shortened-requires
+shortened-requires c κs = (c .before .if1 .taken, within (c .before .before))
+
+same-length : tie.Need-same-length
+same-length c = search needs
+
+returns : tie.Need-returns
+returns c = short-answers _ _ _ _ _ (c .before .before .before .before .before .before .before .before .before .before .before .pre .1) _ (last (c .before .before .before .before .before)) _ _ _ (c .before .before .before .before .if1 .taken) (c .before .before .shortened .ensures)
+
+numbered-requires : tie.Need-numbered-requires
+numbered-requires c κs = search needs
+
+returns-2 : tie.Need-returns-2
+returns-2 c = rw (c .numbered .ensures) (long-refused _ _ _ _ _ (c .before .before .before .before .before .before .before .before .before .pre .1) _ (last (c .before .before .before)) _ (c .before .before .if1 .left) (c .before .if2 .taken))
+
+header-requires : tie.Need-header-requires
+header-requires c κs =
+    let w = within (c .before .before .before) in
+    let e = added-length _ _ _ _ _ (c .before .before .before .before .before .before .before .before .before .pre .1) _ (last (c .before .before .before)) in
+    (omega (arith, e, c .before .if2 .left), (w .first, (omega (arith, w .sum), omega (arith, w .total))))
+
+put-ranges-requires : tie.Need-put-ranges-requires
+put-ranges-requires c κs =
+    let s = (c .before .before .before .before .before .before .before .before .before .before .before .before .before) in
+    let k = c .before .before .before .header .kept .0 in
+    let l = rw (c .before .before .before .before .before .before .before .count .ensures) at (c .before .before .before .before .before .if2 .left) in
+    (rw k l, ((s .pre .0 .0, (s .pre .1 .inside, rw (c .before .before .before .before .before .before .before .before .begin .ensures) (begins-within (s .args .most) (s .args .room) (s .pre .0 .1)))), (rw (c .before .before .before .before .before .before .before .before .begin .ensures) (omega (arith, s .pre .1 .stands)), s .pre .1 .labels)))
+
+cast-told : tie.Need-cast-told
+cast-told c = omega (arith, within (c .before .before .before .before .before .before .before .before .before .before) .at)
+
+told-requires : tie.Need-told-requires
+told-requires c κs = search needs
+
+same-length-2 : tie.Need-same-length-2
+same-length-2 c = search needs
+
+returns-3 : tie.Need-returns-3
+returns-3 c =
+    let x = last (c .before .before .before .before .before .before .before .before .before .before .before) in
+    rw (c .told .ensures)
+    (long-answers _ _ _ _ _ (c .before .before .before .before .before .before .before .before .before .before .before .before .before .before .before .before .before .pre .1) _ x _ _ (c .before .before .before .before .before .before .before .before .before .before .if1 .left) (c .before .before .before .before .before .before .before .before .before .if2 .left) (c .before .before .before .put-ranges .ensures ∙ rw (c .before .before .before .before .before .before .before .before .before .before .before .before .begin .ensures, c .before .before .before .before .before .before .before .header .ensures)))
+
+pub list-spec : {M : Type 1} → statement M
+list-spec =
+    tie.close
+    (tie.spec
+    begin-requires
+    count-requires
+    shortened-requires
+    same-length
+    returns
+    numbered-requires
+    returns-2
+    header-requires
+    put-ranges-requires
+    cast-told
+    told-requires
+    same-length-2
+    returns-3)

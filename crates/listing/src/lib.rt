@@ -1,0 +1,371 @@
+// READ ELEMENT STATUS: the elements chosen, counted range by range, and what of their pages is returned.
+ghost use mathlib.Core.Path.{_≡_};
+ghost use mathlib.Core.List.{[], _∷_};
+ghost use mathlib.Core.Bool.{true};
+ghost use Prim.Native.Nat.{_+_, _-_, _≤_, _<_, min};
+ghost use lib.ListN.{length, take};
+ghost use lib.Dec.{ltb};
+ghost use Rattle.rules.specs.Choice.{anyOf};
+ghost use Rattle.rules.specs.Bytes.{put};
+ghost use Rattle.rules.specs.Tables.{elementAt, hosts, lent};
+ghost use Rattle.rules.specs.Roster.{drive};
+ghost use Rattle.rules.specs.Sound.{sound};
+ghost use Rattle.rules.specs.Order.{outcome, fits, stray};
+ghost use Rattle.rules.specs.Listing.{listMasks, typeCode, header, readStatus};
+ghost use Rattle.rules.proofs.Ascending.{Each, total};
+ghost use Rattle.tables.specs.Ranges.{meaning, meant};
+ghost use Rattle.order.specs.Ending.{ended};
+ghost use Rattle.pages.specs.Pages.{stock, Labelled, used as usedOf};
+ghost use Rattle.listing.specs.Plan.{span, picks, fitsIn, roomBehind};
+ghost use Rattle.listing.specs.Counting.{Inside, Listable, Answers, asked, leadOf, stepOf, stepBytes, counted, added, outset, Within, listed};
+
+const HEADER: usize = 8;
+
+const LAST_TYPE: u8 = 4;
+
+const GOOD: u8 = 0x00;
+
+// House number 5: "answer buffer shorter than the bytes to be returned"
+const TOO_SHORT: u8 = 5;
+
+// What a host asks for: tags, type code, start.
+pub struct Query {
+    pub tagged: bool,
+    pub code: u8,
+    pub start: usize,
+}
+
+// Where a listing stands between two ranges: the place of the next element, how many may still be chosen, the room that is left and where
+// the next byte goes; and so far the number chosen, the bytes of all their pages and the first address chosen.
+pub struct Stand {
+    pub place: usize,
+    pub left: usize,
+    pub room: usize,
+    pub at: usize,
+    pub number: usize,
+    pub total: usize,
+    pub first: usize,
+}
+
+// ---- counting
+
+// a less b, or 0
+fn less(a: usize, b: usize) -> usize
+    ensures { λ r. ⌜ r ≡ a - b ⌝ }
+{
+    if a < b {
+        return 0;
+    }
+    a - b
+}
+
+fn least(a: usize, b: usize) -> usize
+    ensures { λ r. ⌜ r ≡ min a b ⌝ }
+{
+    if a < b {
+        return a;
+    }
+    b
+}
+
+fn wide(x: u16) -> usize
+    ensures { λ r. ⌜ r ≡ x ⌝ }
+{
+    x as usize
+}
+
+// How many of a range are chosen, of at most left: "elements of the type at or above start, ascending, at most that many".
+fn pick(q: Query, left: usize, kind: u8, first: usize, count: usize) -> usize
+    ensures { λ n. ⌜ n ≡ picks (q .code) (q .start) left (span kind first count) ⌝ }
+{
+    let code = q.code;
+    let n = least(left, less(count, less(q.start, first)));
+    if code == 0 {
+        return n;
+    }
+    if code == kind {
+        return n;
+    }
+    0
+}
+
+// How many of the n elements of a page fit in room, its header with the first.
+fn fit(tagged: bool, room: usize, n: usize) -> usize
+    ensures { λ m. ⌜ m ≡ fitsIn tagged room n ⌝ }
+{
+    let w = pages::width(tagged);
+    if room < HEADER + w {
+        return 0;
+    }
+    least(n, (room - HEADER) / w)
+}
+
+// The bytes of a page header and m descriptors; of none, none.
+fn used(tagged: bool, m: usize) -> usize
+    requires { ⌜ m < 65536 ⌝ }
+    ensures { λ r. ⌜ r ≡ usedOf tagged m ⌝ }
+{
+    if m == 0 {
+        return 0;
+    }
+    HEADER + m * pages::width(tagged)
+}
+
+// The room behind a page: none where some of it had no room.
+fn rest(tagged: bool, room: usize, n: usize, m: usize) -> usize
+    requires { ⌜ m < 65536 ⌝ }
+    ensures { λ r. ⌜ r ≡ roomBehind tagged room n m ⌝ }
+{
+    if m == n {
+        return less(room, used(tagged, m));
+    }
+    0
+}
+
+// The first address chosen, once n more are chosen from an address on.
+fn lead(number: usize, n: usize, address: usize, first: usize) -> usize
+    ensures { λ r. ⌜ r ≡ leadOf number n address first ⌝ }
+{
+    if number == 0 {
+        if n == 0 {
+            return 0;
+        }
+        return address;
+    }
+    first
+}
+
+// Counts a range.
+fn step(q: Query, s: Stand, r: tables::Range) -> Stand
+    requires { ⌜ (q .start < 65536) × Inside (meaning r) ⌝ }
+    requires { ⌜ Within 3 s ⌝ }
+    ensures { λ x. ⌜ x ≡ stepOf q s (meaning r) ⌝ }
+{
+    let first = wide(r.first);
+    let count = wide(r.count);
+    let n = pick(q, s.left, r.kind, first, count);
+    let m = fit(q.tagged, s.room, n);
+    let skip = less(q.start, first);
+    Stand {
+        place: s.place + count,
+        left: less(s.left, n),
+        room: rest(q.tagged, s.room, n, m),
+        at: s.at + used(q.tagged, m),
+        number: s.number + n,
+        total: s.total + used(q.tagged, n),
+        first: lead(s.number, n, first + skip, s.first),
+    }
+}
+
+// Counts the four ranges.
+fn count(q: Query, s: Stand, rs: [tables::Range; 4]) -> Stand
+    requires { ⌜ (q .start < 65536) × Each Inside (meant rs) ⌝ }
+    requires { ⌜ Within 0 s ⌝ }
+    ensures { λ x. ⌜ x ≡ counted q s (meant rs) ⌝ }
+{
+    let mut x = s;
+    let mut k = 0;
+    while k < 4 {
+        x = step(q, x, rs[k]);
+        k += 1;
+    }
+    x
+}
+
+// ---- writing
+
+// Writes what a range adds, at its stand.
+fn put_range<'a>(
+    answer: &mut [u8],
+    elements: &[u8],
+    tags: &'a [u8],
+    blank: &'a [u8],
+    q: Query,
+    s: Stand,
+    r: tables::Range,
+)
+    requires { ⌜ stepOf q s (meaning r) .at ≤ length (now answer) ⌝ }
+    requires { ⌜ (q .start < 65536) × (Inside (meaning r) × Within 3 s) ⌝ }
+    requires { ⌜ elementAt (s .place + r .count) ≤ length (now elements) ⌝ }
+    requires { ⌜ Labelled (stock (now elements) (now tags) (now blank)) ⌝ }
+    ensures { λ _. ⌜ now (answer .exit) ≡ put (now (answer .entry)) (s .at) (stepBytes q (stock (now (elements .entry)) (now (tags .entry)) (now (blank .entry))) s (meaning r)) ⌝ }
+{
+    let first = wide(r.first);
+    let n = pick(q, s.left, r.kind, first, wide(r.count));
+    let m = fit(q.tagged, s.room, n);
+    if m == 0 {
+        return;
+    }
+    let skip = less(q.start, first);
+    pages::put_page(
+        answer,
+        s.at,
+        elements,
+        tags,
+        blank,
+        q.tagged,
+        r.kind,
+        first + skip,
+        s.place + skip,
+        n,
+        m,
+    );
+}
+
+// Writes what the four ranges add.
+fn put_ranges<'a>(
+    answer: &mut [u8],
+    elements: &[u8],
+    tags: &'a [u8],
+    blank: &'a [u8],
+    q: Query,
+    s: Stand,
+    rs: [tables::Range; 4],
+)
+    requires { ⌜ counted q s (meant rs) .at ≤ length (now answer) ⌝ }
+    requires { ⌜ (q .start < 65536) × (Each Inside (meant rs) × Within 0 s) ⌝ }
+    requires { ⌜ elementAt (s .place + total (meant rs)) ≤ length (now elements) ⌝ }
+    requires { ⌜ Labelled (stock (now elements) (now tags) (now blank)) ⌝ }
+    ensures { λ _. ⌜ now (answer .exit) ≡ put (now (answer .entry)) (s .at) (added q (stock (now (elements .entry)) (now (tags .entry)) (now (blank .entry))) s (meant rs)) ⌝ }
+{
+    let mut x = s;
+    let mut k = 0;
+    while k < 4 {
+        let r = rs[k];
+        put_range(answer, elements, tags, blank, q, x, r);
+        x = step(q, x, r);
+        k += 1;
+    }
+}
+
+fn begin(most: usize, room: usize) -> Stand
+    ensures { λ r. ⌜ r ≡ outset most room ⌝ }
+{
+    Stand {
+        place: 0,
+        left: most,
+        room: less(room, HEADER),
+        at: HEADER,
+        number: 0,
+        total: 0,
+        first: 0,
+    }
+}
+
+// Below 8: "the first allocation bytes of the header".
+fn shortened(answer: &mut [u8], room: usize, x: Stand) -> order::Reply
+    requires { ⌜ room < 8 ⌝ }
+    requires { ⌜ Within 4 x ⌝ }
+    ensures { λ r. ⌜ Answers (take room (header (x .first) (x .number) (x .total))) (now (answer .entry)) (now (answer .exit)) r ⌝ }
+{
+    if answer.len() < room {
+        return order::numbered(TOO_SHORT);
+    }
+    let mut h = [0u8; HEADER];
+    pages::header(&mut h, x.first, x.number, x.total);
+    wire::copy(answer, &h[..room]);
+    order::told(GOOD, room as u32)
+}
+
+// "else the header and as many whole descriptors as fit": counted, and refused where the answer is too short, before a byte is written.
+fn list<'a>(
+    answer: &mut [u8],
+    elements: &[u8],
+    tags: &'a [u8],
+    blank: &'a [u8],
+    q: Query,
+    most: usize,
+    room: usize,
+    rs: [tables::Range; 4],
+) -> order::Reply
+    requires { ⌜ (q .start < 65536) × (most < 65536) ⌝ }
+    requires { ⌜ Listable (meant rs) (stock (now elements) (now tags) (now blank)) ⌝ }
+    ensures { λ r. ⌜ Answers (listed (q .tagged) (stock (now (elements .entry)) (now (tags .entry)) (now (blank .entry))) (meant rs) (q .code) (q .start) most room) (now (answer .entry)) (now (answer .exit)) r ⌝ }
+{
+    let s = begin(most, room);
+    let x = count(q, s, rs);
+    if room < HEADER {
+        return shortened(answer, room, x);
+    }
+    let end = x.at;
+    if answer.len() < end {
+        return order::numbered(TOO_SHORT);
+    }
+    pages::header(answer, x.first, x.number, x.total);
+    put_ranges(answer, elements, tags, blank, q, s, rs);
+    order::told(GOOD, end as u32)
+}
+
+// ---- the command, from step 4 on
+
+// Bytes 6, 10 and 11 have no use.
+const MASKS: [u8; 11] = [
+    0x00,
+    0x00,
+    0x00,
+    0x00,
+    0x00,
+    0xFF,
+    0x00,
+    0x00,
+    0x00,
+    0xFF,
+    0xFF,
+];
+
+// "A bit without a use below, control byte .. not 0, or a type code above 4"
+fn malformed(block: &[u8]) -> bool
+    requires { ⌜ length (now block) ≡ 12 ⌝ }
+    ensures { λ r. ⌜ r ≡ anyOf (stray listMasks (now (block .entry)) ∷ ltb drive (typeCode (now (block .entry))) ∷ []) ⌝ }
+{
+    if order::stray(block, &MASKS) {
+        return true;
+    }
+    LAST_TYPE < block[1] % 16
+}
+
+// "byte 1 bit 4 tags, bits 0-3 type .., 2-3 start"
+fn query_of(block: &[u8]) -> Query
+    requires { ⌜ length (now block) ≡ 12 ⌝ }
+    ensures { λ q. ⌜ q ≡ asked (now (block .entry)) ⌝ }
+    ensures { λ q. ⌜ q .start < 65536 ⌝ }
+{
+    let options = block[1];
+    Query {
+        tagged: options / 16 % 2 == 1,
+        code: options % 16,
+        start: wide(wire::word_at(block, 2)),
+    }
+}
+
+// READ ELEMENT STATUS for sound tables, a host from 1 to 8 and a block of 12 bytes.
+pub fn read_element_status<'a>(
+    head: &mut [u8],
+    elements: &[u8],
+    tags: &'a [u8],
+    blank: &'a [u8],
+    host: u8,
+    block: &[u8],
+    answer: &mut [u8],
+) -> order::Reply
+    requires { ⌜ sound (lent (now head) (now elements) (now tags) (now blank)) ≡ true ⌝ }
+    requires { ⌜ (1 ≤ host) × (host ≤ hosts) ⌝ }
+    requires { ⌜ length (now block) ≡ 12 ⌝ }
+    ensures { λ r. ⌜ ended r (now (head .exit)) (now (elements .entry)) (now (answer .exit)) ≡ outcome (lent (now (head .entry)) (now (elements .entry)) (now (tags .entry)) (now (blank .entry))) (now (answer .entry)) (fits (now (answer .entry)) (readStatus (lent (now (head .entry)) (now (elements .entry)) (now (tags .entry)) (now (blank .entry))) host (now (block .entry)))) ⌝ }
+{
+    if malformed(block) {
+        return order::check(head, host, 5, 0x24, 0x00);
+    }
+    let q = query_of(block);
+    let most = wide(wire::word_at(block, 4));
+    let room = wire::triple_at(block, 7) as usize;
+    let by_type = tables::ranges(head);
+    let by_address = tables::sorted(by_type);
+    let r = list(answer, elements, tags, blank, q, most, room, by_address);
+    let number = r.number;
+    if number != 0 {
+        return r;
+    }
+    tables::head::note(head, host, 0, 0, 0);
+    r
+}

@@ -1,0 +1,60 @@
+-- RESERVE's list as the code reads it: what a descriptor names, and its fault. Assumes nothing.
+use Prim.Native.Nat.{ℕ, zero, suc, _+_, _≤_, _<_}
+use mathlib.Core.List.{List, [], _∷_}
+use mathlib.Core.Bool.{Bool}
+use lib.ListN.{length}
+use lib.Dec.{ltb, leb}
+use Rattle.rules.specs.Choice.{when, allOf, differ, anyFrom}
+use Rattle.rules.specs.Roster.{Slot}
+use Rattle.rules.specs.Order.{Verdict, check}
+use Rattle.rules.specs.Holds.{descriptors, reservedBytes, number, address, first, many, tooMany, namedBefore}
+use Rattle.lists.specs.declared.Descriptor.{Descriptor}
+use Rattle.lists.specs.declared.Span.{Span}
+use Rattle.lists.specs.declared.Fault.{Fault}
+use Rattle.lists.specs.declared.Fault.the-variants.{Code, None}
+
+unfoldable pub described : List ℕ → ℕ → Descriptor
+described list k = record { reserved = reservedBytes list k; number = number list k; address = address list k }
+
+unfoldable pub spanAt : List Slot → List ℕ → ℕ → Span
+spanAt ss list k = record { first = first ss list k; end = first ss list k + many ss list k }
+
+unfoldable pub meets : Span → Span → Bool
+meets a b = allOf (ltb (b .first) (a .end) ∷ ltb (a .first) (b .end) ∷ [])
+
+unfoldable pub meetsBefore : List Slot → List ℕ → ℕ → Span → Bool
+meetsBefore ss list k s = anyFrom (λ j. meets s (spanAt ss list j)) k 0
+
+-- "wrong address 5/21/01"
+abbrev pub wrong : Fault
+wrong = Code 0x21 0x01
+
+-- one rung for each test: reserved bytes, unknown, too many, named before
+abbrev pub faultBy : Bool → Bool → Bool → Bool → Fault
+faultBy a b c d = when a (Code 0x26 0x00) (when b wrong (when c wrong (when d wrong None)))
+
+unfoldable pub faultAt : List Slot → List ℕ → ℕ → Fault
+faultAt ss list k =
+    faultBy (differ (reservedBytes list k) 0) (leb (length ss) (first ss list k)) (tooMany ss list k) (namedBefore ss list k)
+
+-- the first fault, where there is one
+unfoldable pub orElse : Fault → Fault → Fault
+orElse (Code a q) rest = Code a q
+orElse None rest = rest
+
+-- of the n descriptors from k on
+unfoldable pub faultFrom : List Slot → List ℕ → ℕ → ℕ → Fault
+faultFrom ss list zero k = None
+faultFrom ss list (suc n) k = orElse (faultAt ss list k) (faultFrom ss list n (suc k))
+
+unfoldable pub faultIn : List Slot → List ℕ → Fault
+faultIn ss list = faultFrom ss list (descriptors list) 0
+
+-- what a fault means: it is told, or the rest follows
+unfoldable pub told : ℕ → Verdict → Fault → Verdict
+told h rest (Code a q) = check h 5 a q
+told h rest None = rest
+
+-- each descriptor names elements of the table
+abbrev pub Inside : List Slot → List ℕ → Type 0
+Inside ss list = (k : ℕ) → k < descriptors list → spanAt ss list k .end ≤ length ss

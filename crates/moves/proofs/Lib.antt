@@ -1,0 +1,4 @@
+pub mod Meaning
+pub mod Spots
+pub mod Answers
+pub mod Carried

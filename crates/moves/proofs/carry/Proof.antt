@@ -1,0 +1,27 @@
+-- `moves::carry` meets its contract. Assumes nothing.
+use Rattle.rules.specs.Tables.{places}
+use Rattle.moves.proofs.Carried.{carried-by}
+use borrow.Author.Needs.{needs}
+use Rattle.moves.proofs.carry.Statement.{statement}
+use Rattle.moves.proofs.carry.Tie as tie
+
+volume-requires : tie.Need-volume-requires
+unfolding places
+volume-requires c κs = search needs
+
+fill-requires : tie.Need-fill-requires
+unfolding places
+fill-requires c κs = search needs
+
+fill-requires-2 : tie.Need-fill-requires-2
+unfolding places
+fill-requires-2 c κs = search needs
+
+same-length : tie.Need-same-length
+same-length c = search needs
+
+returns : tie.Need-returns
+returns c = carried-by _ _ _ _ _ _ _ (c .before .before .before .before .before .before .before .before .volume .ensures) (c .before .before .before .before .before .before .fill .ensures) (c .before .before .fill2 .ensures)
+
+pub carry-spec : {M : Type 1} → statement M
+carry-spec = tie.close (tie.spec volume-requires fill-requires fill-requires-2 same-length returns)

@@ -1,0 +1,284 @@
+-- None of the promises is hollow: each is met by calls on the small library, whose outcomes compute. Assumes nothing.
+use Prim.Native.Nat.{ℕ, _+_, _≤_}
+use native.Mathlib.Omega.{arith}
+use mathlib.Core.Path.{_≡_, refl, sym, _∙_}
+use mathlib.Core.Logic.{_≢_, ⊎-elim}
+use mathlib.Core.Bool.{Bool, true, false}
+use mathlib.Core.List.{List, [], _∷_, _++_, map, List·Memᴰ, List·Memᴰ·not-nil, List·Memᴰ·cases-cons}
+use lib.Dec.{leb}
+use borrow.Author.Tests.{leb-true}
+use Rattle.rules.specs.Choice.{when, differ}
+use Rattle.rules.specs.Tables.{Tables}
+use Rattle.rules.specs.Sound.{sound}
+use Rattle.rules.specs.Order.{Outcome, GOOD, CHECK-CONDITION, RESERVATION-CONFLICT}
+use Rattle.rules.specs.Command.{Request, Call, Command, Import, Export, serve}
+use Rattle.rules.specs.Histories.{next, leaves, History, begun, called, imports, exports, Reply, runRequests, replies, Mixing, none, left, right, named, From, end, more, Apart}
+use Rattle.rules.specs.Small.{element, empty, loaded, elementsOf, library, quietHead, small, moveBlock, readBlock, asks, lentBuffer, refuses}
+use Rattle.rules.specs.Cases.{Case, numbers, eventNumbers, twice, laden, locked}
+use Rattle.rules.proofs.Ladder.{differ-true}
+use Rattle.promises.specs.Refusals.{Untouched, OwnBytesAlone, Kept, Reads}
+use Rattle.promises.specs.Demand3.{AsIfAlone}
+use Rattle.promises.specs.Sequences.{AsTheRules}
+use Rattle.promises.specs.Volumes.{standing}
+use Rattle.rules.proofs.Opened.{opened}
+use Rattle.promises.proofs.SoundStays.{sound-stays-promised}
+use Rattle.promises.proofs.Refusals.{by-number, by-status, buffer-kept, only-reads}
+use Rattle.promises.proofs.Demand3.{demand3}
+use Rattle.promises.proofs.Sequences.{sequences}
+use Rattle.promises.proofs.Volumes.{volumes-promised, never-twice}
+
+-- ---- a test at every member of a list
+
+every : {A : Type 0} → (A → Bool) → List A → Bool
+unfolding when
+every f [] = true
+every f (a ∷ l) = when (f a) (every f l) false
+
+when-first : (b c : Bool) → when b c false ≡ true → b ≡ true
+unfolding when
+when-first true c e = refl
+when-first false c e = e
+
+when-rest : (b c : Bool) → when b c false ≡ true → c ≡ true
+unfolding when
+when-rest true c e = e
+when-rest false c e = cc
+
+at-each : {A : Type 0} (f : A → Bool) (l : List A) → every f l ≡ true → (a : A) → List·Memᴰ a l → f a ≡ true
+unfolding every
+at-each f [] e a m = absurd (List·Memᴰ·not-nil m)
+at-each f (b ∷ l) e a m =
+    ⊎-elim (λ (i : a ≡ b). rw i (when-first (f b) (every f l) e)) (λ n. at-each f l (when-rest (f b) (every f l) e) a n) (List·Memᴰ·cases-cons m)
+
+small-sound : sound small ≡ true
+unfolding opened
+small-sound = refl
+
+-- ---- sound stays sound: of P1, which is carried out
+
+p1 : Call
+p1 = asks (moveBlock 0x1000 0x0100)
+
+p1-moves : next small p1 ≡ library quietHead (elementsOf empty (element 1 0x1000 0 0 0) empty empty (loaded 2) empty)
+unfolding opened p1
+p1-moves = refl
+
+p1-stays : sound (next small p1) ≡ true
+p1-stays = sound-stays-promised small p1 small-sound
+
+-- ---- demand 1: of a refusal by each number, and by either status
+
+refusals : List Case
+refusals = numbers ++ eventNumbers
+
+numberOf : Case → ℕ
+numberOf c = serve (c .on) (c .call) .number
+
+each-number : map numberOf refusals ≡ 1 ∷ 2 ∷ 3 ∷ 4 ∷ 5 ∷ 6 ∷ 7 ∷ 8 ∷ 8 ∷ 9 ∷ []
+unfolding opened refusals numberOf numbers eventNumbers twice laden locked refuses
+each-number = refl
+
+none-done : every (λ c. differ (numberOf c) 0) refusals ≡ true
+unfolding every opened refusals numberOf numbers eventNumbers twice laden locked refuses
+none-done = refl
+
+each-refusal-untouched : (c : Case) → List·Memᴰ c refusals → Untouched (c .on) (c .call) (serve (c .on) (c .call))
+unfolding numberOf
+each-refusal-untouched c m = by-number (c .on) (c .call) (differ-true _ 0 (at-each (λ c. differ (numberOf c) 0) refusals none-done c m))
+
+-- P2: CHECK CONDITION stores host 1's sense and nothing else
+asked : List ℕ → Request
+asked block = record { host = 1; block = block; parameters = []; buffer = [] }
+
+p2 : Request
+p2 = asked (moveBlock 0x1001 0x0100)
+
+p2-checks : serve small (Command p2) .status ≡ CHECK-CONDITION
+unfolding opened p2 asked
+p2-checks = refl
+
+p2-alone : OwnBytesAlone small p2 (serve small (Command p2))
+p2-alone = by-status small p2 (λ e. let z : _≡_ {A = ℕ} 2 0 = sym p2-checks ∙ e in omega arith)
+
+-- P11: RESERVATION CONFLICT
+p11-on : Tables
+p11-on = library quietHead (elementsOf empty empty (loaded 1) empty (element 2 0 2 0 0) empty)
+
+p11 : Request
+p11 = asked (moveBlock 0x1000 0x1002)
+
+p11-conflicts : serve p11-on (Command p11) .status ≡ RESERVATION-CONFLICT
+unfolding opened p11-on p11 asked
+p11-conflicts = refl
+
+p11-alone : OwnBytesAlone p11-on p11 (serve p11-on (Command p11))
+p11-alone = by-status p11-on p11 (λ e. let z : _≡_ {A = ℕ} 0x18 0 = sym p11-conflicts ∙ e in omega arith)
+
+-- P12: bytes are returned, and two of the buffer's stay
+p12 : Request
+p12 = record { host = 1; block = readBlock 2 2 48; parameters = []; buffer = lentBuffer 50 }
+
+p12-counts : serve small (Command p12) .count ≡ 48
+unfolding opened p12
+p12-counts = refl
+
+p12-reads : (serve small (Command p12) .status ≡ GOOD) × Reads (Command p12)
+p12-reads = only-reads small (Command p12) (λ e. let z : _≡_ {A = ℕ} 48 0 = sym p12-counts ∙ e in omega arith)
+
+p12-keeps : Kept (Command p12) (serve small (Command p12))
+p12-keeps = buffer-kept small (Command p12)
+
+-- ---- demand 3: two hosts that really move reels, in all six mixings
+
+sent : ℕ → ℕ → ℕ → Request
+sent host from to = record { host = host; block = moveBlock from to; parameters = []; buffer = [] }
+
+-- host 1 takes volume 1 to the drive and on to another shelf; host 2 takes volume 2 to another shelf and back
+a₁ : Request
+a₁ = sent 1 0x1000 0x0100
+
+a₂ : Request
+a₂ = sent 1 0x0100 0x1001
+
+b₁ : Request
+b₁ = sent 2 0x1002 0x1003
+
+b₂ : Request
+b₂ = sent 2 0x1003 0x1002
+
+ones : List Request
+ones = a₁ ∷ a₂ ∷ []
+
+twos : List Request
+twos = b₁ ∷ b₂ ∷ []
+
+-- a list that keeps each host's order
+record Mixed : Type 0 where
+  order : List Request
+  mixing : Mixing ones twos order
+
+mixings : List Mixed
+unfolding ones twos
+mixings =
+    record { order = a₁ ∷ a₂ ∷ b₁ ∷ b₂ ∷ []; mixing = left (left (right (right none))) }
+    ∷ record { order = a₁ ∷ b₁ ∷ a₂ ∷ b₂ ∷ []; mixing = left (right (left (right none))) }
+    ∷ record { order = a₁ ∷ b₁ ∷ b₂ ∷ a₂ ∷ []; mixing = left (right (right (left none))) }
+    ∷ record { order = b₁ ∷ a₁ ∷ a₂ ∷ b₂ ∷ []; mixing = right (left (left (right none))) }
+    ∷ record { order = b₁ ∷ a₁ ∷ b₂ ∷ a₂ ∷ []; mixing = right (left (right (left none))) }
+    ∷ record { order = b₁ ∷ b₂ ∷ a₁ ∷ a₂ ∷ []; mixing = right (right (left (left none))) }
+    ∷ []
+
+-- host 1 names addresses up to 1001h, host 2 above
+low-ones : every (λ x. every (λ a. leb a 0x1001) (named (x .block))) ones ≡ true
+unfolding every opened ones a₁ a₂ sent
+low-ones = refl
+
+high-twos : every (λ y. every (λ a. leb 0x1002 a) (named (y .block))) twos ≡ true
+unfolding every opened twos b₁ b₂ sent
+high-twos = refl
+
+apart : Apart ones twos
+apart x y m n a i j =
+    let low : a ≤ 0x1001 = leb-true _ _ (at-each (λ a. leb a 0x1001) _ (at-each (λ x. every (λ a. leb a 0x1001) (named (x .block))) ones low-ones x m) a i) in
+    let high : 0x1002 ≤ a = leb-true _ _ (at-each (λ a. leb 0x1002 a) _ (at-each (λ y. every (λ a. leb 0x1002 a) (named (y .block))) twos high-twos y n) a j) in
+    omega arith
+
+from-one : From 1 ones
+unfolding opened ones a₁ a₂ sent
+from-one = more refl refl (more refl refl end)
+
+from-two : From 2 twos
+unfolding opened twos b₁ b₂ sent
+from-two = more refl refl (more refl refl end)
+
+each-mixing : (m : Mixed) → AsIfAlone 1 2 ones twos (m .order) small
+each-mixing m = demand3 1 2 (λ e. omega arith) ones twos (m .order) from-one from-two apart (m .mixing) small
+
+-- what each host is told alone, and where the reels are at the end
+good : Reply
+good = record { number = 0; status = 0; count = 0; buffer = [] }
+
+one-alone : replies 1 small ones ≡ good ∷ good ∷ []
+unfolding opened ones a₁ a₂ sent good
+one-alone = refl
+
+two-alone : replies 2 small twos ≡ good ∷ good ∷ []
+unfolding opened twos b₁ b₂ sent good
+two-alone = refl
+
+moved : Tables
+moved = library quietHead (elementsOf empty empty empty (element 1 0x0100 0 0 0) (element 2 0x1003 0 0 0) empty)
+
+all-moved : runRequests small (ones ++ twos) ≡ moved
+unfolding opened ones twos a₁ a₂ b₁ b₂ sent moved
+all-moved = refl
+
+each-moved : (m : Mixed) → runRequests small (m .order) ≡ moved
+each-moved m = each-mixing m .tables ∙ all-moved
+
+-- ---- sequences and volumes: a history with an import and an export
+
+-- the history that the rules themselves make
+passes : Tables → List Call → Tables
+passes t [] = t
+passes t (c ∷ cs) = passes (leaves (serve t c) t) cs
+
+gives : Tables → List Call → List Outcome
+gives t [] = []
+gives t (c ∷ cs) = serve t c ∷ gives (leaves (serve t c) t) cs
+
+history : (t : Tables) (cs : List Call) → History t cs (gives t cs) (passes t cs)
+unfolding passes gives
+history t [] = begun
+history t (c ∷ cs) = called refl (history (leaves (serve t c) t) cs)
+
+-- volume 3 comes in and goes to a shelf, volume 1 goes out; host 1 is told of the import in between
+day : List Call
+day =
+    Import 0x0010 3
+    ∷ asks (0x00 ∷ 0 ∷ 0 ∷ 0 ∷ 0 ∷ 0 ∷ [])
+    ∷ asks (moveBlock 0x0010 0x1001)
+    ∷ asks (moveBlock 0x1000 0x0010)
+    ∷ Export 0x0010
+    ∷ []
+
+statuses : List Outcome → List ℕ
+statuses [] = []
+statuses (o ∷ os) = o .status ∷ statuses os
+
+day-answered : statuses (gives small day) ≡ 0x00 ∷ 0x02 ∷ 0x00 ∷ 0x00 ∷ 0x00 ∷ []
+unfolding opened day gives statuses
+day-answered = refl
+
+day-ends : AsTheRules small day (gives small day) (passes small day)
+day-ends = sequences _ _ _ _ (history small day) small-sound
+
+evening : passes small day .elements ≡ elementsOf empty empty empty (element 3 0x0010 0 0 0) (loaded 2) empty
+unfolding opened day passes
+evening = refl
+
+-- w stands so often after it, was exported, stood before it, was imported
+record Count (w after went before came : ℕ) : Type 0 where
+  now-is : standing w (passes small day) ≡ after
+  went-is : exports w (history small day) ≡ went
+  then-is : standing w small ≡ before
+  came-is : imports w (history small day) ≡ came
+
+volume-1 : Count 1 0 1 1 0
+unfolding opened day passes gives history
+volume-1 = record { now-is = refl; went-is = refl; then-is = refl; came-is = refl }
+
+volume-2 : Count 2 1 0 1 0
+unfolding opened day passes gives history
+volume-2 = record { now-is = refl; went-is = refl; then-is = refl; came-is = refl }
+
+volume-3 : Count 3 1 0 0 1
+unfolding opened day passes gives history
+volume-3 = record { now-is = refl; went-is = refl; then-is = refl; came-is = refl }
+
+day-volumes : (w : ℕ) → w ≢ 0
+    → standing w (passes small day) + exports w (history small day) ≡ standing w small + imports w (history small day)
+day-volumes w z = volumes-promised _ _ _ _ (history small day) small-sound w z
+
+once-each : (w : ℕ) → w ≢ 0 → standing w (passes small day) ≤ 1
+once-each w z = never-twice (passes small day) (day-ends .sound-still) w z

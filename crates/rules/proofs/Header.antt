@@ -1,0 +1,350 @@
+-- "Counts are never cut to the allocation": whatever the allocation, the header tells of all elements chosen and of all their pages, and what is
+-- returned is the beginning of the whole answer, up to the end of a descriptor. Assumes nothing.
+use Prim.Native.Nat.{ℕ, zero, suc, _+_, _*_, _-_, _≤_, _<_}
+use native.Mathlib.Omega.{arith}
+use mathlib.Core.Path.{_≡_, refl, sym, ap, _∙_}
+use mathlib.Core.Logic.{_⊎_, inl, inr}
+use mathlib.Core.List.{List, [], _∷_, _++_, map, append-assoc, append-nil}
+use mathlib.Core.Bool.{Bool, true, false}
+use lib.ListN.{length, take, length-append, length-map}
+use lib.Seq.{take-append-add, take-append-le, length-take-le, take-take}
+use lib.Dec.{leb, ltb, T}
+use borrow.Author.Tests.{leb-true, leb-false, ltb-true, ltb-false, le-leb, lt-ltb, le-ltb}
+use Rattle.rules.specs.Choice.{when, anyOf}
+use Rattle.rules.specs.Bytes.{byte, word, triple, three}
+use Rattle.rules.specs.Tables.{Tables}
+use Rattle.rules.specs.Roster.{Slot, Range, range, ranges, slots, spread, insert, sorted, roster}
+use Rattle.rules.specs.Sound.{sound}
+use Rattle.rules.specs.Listing.{typeCode, keep, ofType, atOrAbove, chosen, chosenBy, descriptor, pageHeader, page, pages, pagesOf, joined, firstAddress, header, headerOf, fitting, returned, listing}
+use Rattle.rules.proofs.Ladder.{on, when-true, when-false}
+use Rattle.rules.proofs.Ascending.{Each, each-map, sorted-each, Rising, rising-lower, roster-rises, ranges-sound}
+
+-- the whole answer: the header and all pages
+unfoldable pub whole : Bool → Tables → List Slot → List ℕ
+whole tagged t ss = headerOf ss (pagesOf tagged t ss) ++ joined (pagesOf tagged t ss)
+
+-- the second begins with the first
+abbrev pub Begins : List ℕ → List ℕ → Type 0
+Begins xs ys = take (length xs) ys ≡ xs
+
+begins-behind : (hs xs ys : List ℕ) → Begins xs ys → Begins (hs ++ xs) (hs ++ ys)
+begins-behind hs xs ys b = rw (length-append hs xs, take-append-add hs ys (length xs), b)
+
+-- ---- pieces that fit
+
+fitting-begins : (room : ℕ) (ps : List (List ℕ)) → Begins (fitting room ps) (joined ps)
+unfolding fitting joined
+fitting-begins room [] = refl
+fitting-begins room (p ∷ ps) =
+    on (λ (x : List ℕ). Begins x (p ++ joined ps)) (leb (length p) room)
+    (λ e. begins-behind p (fitting (room - length p) ps) (joined ps) (fitting-begins (room - length p) ps)) (λ e. refl)
+
+fitting-grows : (room more : ℕ) (ps : List (List ℕ)) → room ≤ more → Begins (fitting room ps) (fitting more ps)
+unfolding fitting
+fitting-grows room more [] h = refl
+fitting-grows room more (p ∷ ps) h =
+    on (λ (x : List ℕ). Begins x (when (leb (length p) more) (p ++ fitting (more - length p) ps) [])) (leb (length p) room)
+    (λ e. let l = leb-true (length p) room e in inside (le-leb (length p) more (omega arith)) (fitting-grows (room - length p) (more - length p) ps (omega arith)))
+    (λ e. refl)
+  where
+    inside : leb (length p) more ≡ true → Begins (fitting (room - length p) ps) (fitting (more - length p) ps)
+        → Begins (p ++ fitting (room - length p) ps) (when (leb (length p) more) (p ++ fitting (more - length p) ps) [])
+    inside e b = rw (when-true _ (p ++ fitting (more - length p) ps) [] e) (begins-behind p _ _ b)
+
+fitting-all : (room : ℕ) (ps : List (List ℕ)) → length (joined ps) ≤ room → fitting room ps ≡ joined ps
+unfolding fitting joined
+fitting-all room [] h = refl
+fitting-all room (p ∷ ps) h =
+    let n = length-append p (joined ps) in
+    when-true (leb (length p) room) (p ++ fitting (room - length p) ps) [] (le-leb (length p) room (omega arith))
+    ∙ ap (λ (x : List ℕ). p ++ x) (fitting-all (room - length p) ps (omega arith))
+
+-- ---- the header
+
+header-length : (ss : List Slot) (ps : List (List ℕ)) → length (headerOf ss ps) ≡ 8
+unfolding headerOf header three
+header-length ss ps = refl
+
+pub record Tells (bytes : List ℕ) (ss : List Slot) (pageBytes : ℕ) : Type 0 where
+  pub first : word bytes 0 ≡ firstAddress ss
+  pub number : word bytes 2 ≡ length ss
+  pub count : triple bytes 5 ≡ pageBytes
+
+returned-tells : (allocation : ℕ) (ss : List Slot) (ps : List (List ℕ)) → 8 ≤ allocation
+    → Tells (returned allocation (headerOf ss ps) ps) ss (length (joined ps))
+unfolding returned headerOf header three word triple byte
+returned-tells allocation ss ps h =
+    rw (when-false (ltb allocation 8) (take allocation (headerOf ss ps)) (headerOf ss ps ++ fitting (allocation - 8) ps) (le-ltb allocation 8 h))
+    (record { first = omega arith; number = omega arith; count = omega arith })
+
+-- ---- what is returned
+
+returned-begins : (allocation : ℕ) (ss : List Slot) (ps : List (List ℕ))
+    → Begins (returned allocation (headerOf ss ps) ps) (headerOf ss ps ++ joined ps)
+unfolding returned
+returned-begins allocation ss ps =
+    on (λ (x : List ℕ). Begins x (headerOf ss ps ++ joined ps)) (ltb allocation 8)
+    (λ e.
+    let l = ltb-true allocation 8 e in
+    let n = header-length ss ps in
+    rw (length-take-le allocation (headerOf ss ps) (omega arith)) (take-append-le allocation (headerOf ss ps) (joined ps) (omega arith)))
+    (λ e. begins-behind (headerOf ss ps) (fitting (allocation - 8) ps) (joined ps) (fitting-begins (allocation - 8) ps))
+
+returned-grows : (allocation more : ℕ) (ss : List Slot) (ps : List (List ℕ)) → allocation ≤ more
+    → Begins (returned allocation (headerOf ss ps) ps) (returned more (headerOf ss ps) ps)
+unfolding returned
+returned-grows allocation more ss ps h =
+    on (Begins _) (ltb more 8) (λ e. let l = ltb-true more 8 e in rw (short (omega arith)) (below-both l))
+    (λ e. let l = ltb-false more 8 e in on (λ (x : List ℕ). Begins x (head ++ fitting (more - 8) ps)) (ltb allocation 8)
+    (λ d. let k = ltb-true allocation 8 d in below-one (omega arith))
+    (λ d. begins-behind head _ _ (fitting-grows (allocation - 8) (more - 8) ps (omega arith))))
+  where
+    head : List ℕ
+    head = headerOf ss ps
+
+    short : allocation < 8 → when (ltb allocation 8) (take allocation head) (head ++ fitting (allocation - 8) ps) ≡ take allocation head
+    short l = when-true _ _ _ (lt-ltb allocation 8 l)
+
+    length-is : (n : ℕ) → n < 8 → length (take n head) ≡ n
+    length-is n l = length-take-le n head (omega (arith, header-length ss ps))
+
+    below-both : more < 8 → Begins (take allocation head) (take more head)
+    below-both l = rw (length-is allocation (omega arith)) (take-take allocation more head h)
+
+    below-one : allocation < 8 → Begins (take allocation head) (head ++ fitting (more - 8) ps)
+    below-one l = rw (length-is allocation l) (take-append-le allocation head _ (omega (arith, header-length ss ps)))
+
+returned-all : (allocation : ℕ) (ss : List Slot) (ps : List (List ℕ)) → length (headerOf ss ps ++ joined ps) ≤ allocation
+    → returned allocation (headerOf ss ps) ps ≡ headerOf ss ps ++ joined ps
+unfolding returned
+returned-all allocation ss ps h =
+    let n = length-append (headerOf ss ps) (joined ps) in
+    let k = header-length ss ps in
+    when-false (ltb allocation 8) (take allocation (headerOf ss ps)) (headerOf ss ps ++ fitting (allocation - 8) ps) (le-ltb allocation 8 (omega arith))
+    ∙ ap (λ (x : List ℕ). headerOf ss ps ++ x) (fitting-all (allocation - 8) ps (omega arith))
+
+-- ---- each piece ends with a descriptor, so what is returned does
+
+-- it ends with the descriptor of an element
+abbrev pub Ends : Bool → Tables → List ℕ → Type 0
+Ends tagged t xs = (front : List ℕ) × (s : Slot) × (xs ≡ front ++ descriptor tagged t s)
+
+abbrev AllEnd : Bool → Tables → List (List ℕ) → Type 0
+AllEnd tagged t [] = T true
+AllEnd tagged t (p ∷ ps) = Ends tagged t p × AllEnd tagged t ps
+
+map-ends : (tagged : Bool) (t : Tables) (ss : List Slot) → AllEnd tagged t (map (descriptor tagged t) ss)
+map-ends tagged t [] = tt
+map-ends tagged t (s ∷ ss) = (([], s, refl), map-ends tagged t ss)
+
+append-ends : (tagged : Bool) (t : Tables) (ps qs : List (List ℕ)) → AllEnd tagged t ps → AllEnd tagged t qs → AllEnd tagged t (ps ++ qs)
+append-ends tagged t [] qs a b = b
+append-ends tagged t (p ∷ ps) qs a b = (a .0, append-ends tagged t ps qs (a .1) b)
+
+page-ends : (tagged : Bool) (t : Tables) (kind : ℕ) (ss : List Slot) → AllEnd tagged t (page tagged t kind ss)
+unfolding page
+page-ends tagged t kind [] = tt
+page-ends tagged t kind (s ∷ ss) = ((pageHeader tagged kind (suc (length ss)), s, refl), map-ends tagged t ss)
+
+pages-end : (tagged : Bool) (t : Tables) (rs : List Range) (ss : List Slot) → AllEnd tagged t (pages tagged t rs ss)
+unfolding pages
+pages-end tagged t [] ss = tt
+pages-end tagged t (r ∷ rs) ss =
+    append-ends tagged t (page tagged t (r .kind) (keep (ofType (r .kind)) ss)) (pages tagged t rs ss) (page-ends tagged t (r .kind) _) (pages-end tagged t rs ss)
+
+pages-of-end : (tagged : Bool) (t : Tables) (ss : List Slot) → AllEnd tagged t (pagesOf tagged t ss)
+unfolding pagesOf
+pages-of-end tagged t ss = pages-end tagged t (sorted (ranges (t .head))) ss
+
+-- nothing, or ended
+abbrev Ended : Bool → Tables → List ℕ → Type 0
+Ended tagged t xs = (xs ≡ []) ⊎ Ends tagged t xs
+
+ends-behind : (tagged : Bool) (t : Tables) (hs xs : List ℕ) → Ends tagged t xs → Ends tagged t (hs ++ xs)
+ends-behind tagged t hs xs (front, s, e) = (hs ++ front, s, ap (λ (x : List ℕ). hs ++ x) e ∙ sym (append-assoc hs front (descriptor tagged t s)))
+
+fitting-ends : (tagged : Bool) (t : Tables) (room : ℕ) (ps : List (List ℕ)) → AllEnd tagged t ps → Ended tagged t (fitting room ps)
+unfolding fitting
+fitting-ends tagged t room [] a = inl refl
+fitting-ends tagged t room (p ∷ ps) a =
+    on (Ended tagged t) (leb (length p) room) (λ e. inr (join (fitting (room - length p) ps) (fitting-ends tagged t (room - length p) ps (a .1))))
+    (λ e. inl refl)
+  where
+    join : (xs : List ℕ) → Ended tagged t xs → Ends tagged t (p ++ xs)
+    join xs (inl e) = rw (e, append-nil p) (a .0)
+    join xs (inr e) = ends-behind tagged t p xs e
+
+-- ---- the listing
+
+module _ (tagged : Bool) (t : Tables) (ss : List Slot) where
+  -- "first chosen address (0 if none), number chosen, 0, three-byte count of all page bytes", whatever of the pages is returned
+  pub header-tells : (allocation : ℕ) → 8 ≤ allocation → Tells (listing tagged t allocation ss) ss (length (joined (pagesOf tagged t ss)))
+  unfolding listing
+  header-tells allocation h = returned-tells allocation ss (pagesOf tagged t ss) h
+
+  -- "What is returned is always a prefix of the whole answer"
+  pub listing-begins : (allocation : ℕ) → Begins (listing tagged t allocation ss) (whole tagged t ss)
+  unfolding listing whole
+  listing-begins allocation = returned-begins allocation ss (pagesOf tagged t ss)
+
+  -- a larger allocation extends it
+  pub listing-grows : (allocation more : ℕ) → allocation ≤ more → Begins (listing tagged t allocation ss) (listing tagged t more ss)
+  unfolding listing
+  listing-grows allocation more h = returned-grows allocation more ss (pagesOf tagged t ss) h
+
+  -- up to the whole
+  pub listing-all : (allocation : ℕ) → length (whole tagged t ss) ≤ allocation → listing tagged t allocation ss ≡ whole tagged t ss
+  unfolding listing whole
+  listing-all allocation h = returned-all allocation ss (pagesOf tagged t ss) h
+
+  -- from 8 on, it is the header alone, or it ends with a descriptor
+  pub listing-ends : (allocation : ℕ) → 8 ≤ allocation
+      → (listing tagged t allocation ss ≡ headerOf ss (pagesOf tagged t ss)) ⊎ Ends tagged t (listing tagged t allocation ss)
+  unfolding listing returned
+  listing-ends allocation h =
+      rw (when-false (ltb allocation 8) (take allocation head) (head ++ fitting (allocation - 8) ps) (le-ltb allocation 8 h))
+      (join (fitting (allocation - 8) ps) (fitting-ends tagged t (allocation - 8) ps (pages-of-end tagged t ss)))
+    where
+      ps : List (List ℕ)
+      ps = pagesOf tagged t ss
+
+      head : List ℕ
+      head = headerOf ss (pagesOf tagged t ss)
+
+      join : (xs : List ℕ) → Ended tagged t xs → (head ++ xs ≡ head) ⊎ Ends tagged t (head ++ xs)
+      join xs (inl e) = inl (rw e (append-nil head))
+      join xs (inr e) = inr (ends-behind tagged t head xs e)
+
+-- ---- the number that the header tells is the number of descriptors in the whole answer
+
+-- how many of the ranges are of an element's type
+hits : Slot → List Range → ℕ
+hits s [] = 0
+hits s (r ∷ rs) = when (ofType (r .kind) s) 1 0 + hits s rs
+
+allHits : List Slot → List Range → ℕ
+allHits [] rs = 0
+allHits (s ∷ ss) rs = hits s rs + allHits ss rs
+
+no-hits : (ss : List Slot) → allHits ss [] ≡ 0
+unfolding allHits hits
+no-hits [] = refl
+no-hits (s ∷ ss) = let i = no-hits ss in omega arith
+
+more-hits : (r : Range) (rs : List Range) (ss : List Slot) → allHits ss (r ∷ rs) ≡ length (keep (ofType (r .kind)) ss) + allHits ss rs
+unfolding allHits hits keep when
+more-hits r rs [] = refl
+more-hits r rs (s ∷ ss) = go (ofType (r .kind) s) (more-hits r rs ss)
+  where
+    go : (b : Bool) → allHits ss (r ∷ rs) ≡ length (keep (ofType (r .kind)) ss) + allHits ss rs
+        → when b 1 0 + hits s rs + allHits ss (r ∷ rs)
+        ≡ length (when b (s ∷ keep (ofType (r .kind)) ss) (keep (ofType (r .kind)) ss)) + (hits s rs + allHits ss rs)
+    go true e = omega arith
+    go false e = omega arith
+
+page-pieces : (tagged : Bool) (t : Tables) (kind : ℕ) (ss : List Slot) → length (page tagged t kind ss) ≡ length ss
+unfolding page
+page-pieces tagged t kind [] = refl
+page-pieces tagged t kind (s ∷ ss) = ap suc (length-map ss (descriptor tagged t))
+
+pages-pieces : (tagged : Bool) (t : Tables) (rs : List Range) (ss : List Slot) → length (pages tagged t rs ss) ≡ allHits ss rs
+unfolding pages
+pages-pieces tagged t [] ss = sym (no-hits ss)
+pages-pieces tagged t (r ∷ rs) ss =
+    let p : List (List ℕ) = page tagged t (r .kind) (keep (ofType (r .kind)) ss) in
+    length-append p (pages tagged t rs ss)
+    ∙ rw (page-pieces tagged t (r .kind) (keep (ofType (r .kind)) ss), pages-pieces tagged t rs ss) (sym (more-hits r rs ss))
+
+insert-hits : (s : Slot) (r : Range) (rs : List Range) → hits s (insert r rs) ≡ hits s (r ∷ rs)
+unfolding insert hits
+insert-hits s r [] = refl
+insert-hits s r (q ∷ rs) =
+    let i = insert-hits s r rs in
+    on (λ (x : List Range). hits s x ≡ hits s (r ∷ q ∷ rs)) (leb (r .first) (q .first)) (λ e. refl) (λ e. omega arith)
+
+sorted-hits : (s : Slot) (rs : List Range) → hits s (sorted rs) ≡ hits s rs
+unfolding sorted hits
+sorted-hits s [] = refl
+sorted-hits s (r ∷ rs) = let i = sorted-hits s rs in insert-hits s r (sorted rs) ∙ omega arith
+
+-- each element is of the type of one range
+abbrev Once : List Range → List Slot → Type 0
+Once rs [] = T true
+Once rs (s ∷ ss) = (hits s rs ≡ 1) × Once rs ss
+
+once-hits : (rs : List Range) (ss : List Slot) → Once rs ss → allHits ss rs ≡ length ss
+unfolding allHits
+once-hits rs [] o = refl
+once-hits rs (s ∷ ss) o = let i = once-hits rs ss (o .1) in omega (arith, o .0)
+
+once-append : (rs : List Range) (ss us : List Slot) → Once rs ss → Once rs us → Once rs (ss ++ us)
+once-append rs [] us o p = p
+once-append rs (s ∷ ss) us o p = (o .0, once-append rs ss us (o .1) p)
+
+-- all elements of a type
+abbrev OfOne : List Range → Range → Type 0
+OfOne rs r = (a p : ℕ) → hits (record { kind = r .kind; address = a; place = p }) rs ≡ 1
+
+once-slots : (rs : List Range) (r : Range) (a p n : ℕ) → OfOne rs r → Once rs (slots (r .kind) a p n)
+unfolding slots
+once-slots rs r a p zero o = tt
+once-slots rs r a p (suc n) o = (o a p, once-slots rs r (suc a) (suc p) n o)
+
+once-spread : (rs qs : List Range) (p : ℕ) → Each (OfOne rs) qs → Once rs (spread p qs)
+unfolding spread
+once-spread rs [] p o = tt
+once-spread rs (q ∷ qs) p o =
+    once-append rs (slots (q .kind) (q .first) p (q .count)) (spread (p + q .count) qs) (once-slots rs q (q .first) p (q .count) (o .0))
+    (once-spread rs qs (p + q .count) (o .1))
+
+once-keep : (rs : List Range) (f : Slot → Bool) (ss : List Slot) → Once rs ss → Once rs (keep f ss)
+unfolding keep
+once-keep rs f [] o = tt
+once-keep rs f (s ∷ ss) o = on (Once rs) (f s) (λ e. (o .0, once-keep rs f ss (o .1))) (λ e. once-keep rs f ss (o .1))
+
+once-take : (rs : List Range) (n : ℕ) (ss : List Slot) → Once rs ss → Once rs (take n ss)
+once-take rs zero ss o = tt
+once-take rs (suc n) [] o = tt
+once-take rs (suc n) (s ∷ ss) o = (o .0, once-take rs n ss (o .1))
+
+one-each : (head : List ℕ) → Each (OfOne (ranges head)) (ranges head)
+unfolding ranges range hits ofType anyOf when
+one-each head = (λ a p. refl, (λ a p. refl, (λ a p. refl, (λ a p. refl, tt))))
+
+once-roster : (head : List ℕ) → Once (sorted (ranges head)) (roster head)
+unfolding roster
+once-roster head =
+    once-spread (sorted (ranges head)) (sorted (ranges head)) 0
+    (each-map (OfOne (ranges head)) (OfOne (sorted (ranges head))) (λ r o a p. sorted-hits _ (ranges head) ∙ o a p) (sorted (ranges head))
+    (sorted-each (OfOne (ranges head)) (ranges head) (one-each head)))
+
+once-chosen : (t : Tables) (block : List ℕ) → Once (sorted (ranges (t .head))) (chosenBy t block)
+unfolding chosenBy chosen
+once-chosen t block =
+    once-take _ (word block 4) _ (once-keep _ (atOrAbove (word block 2)) _ (once-keep _ (ofType (typeCode block)) (roster (t .head)) (once-roster (t .head))))
+
+-- the whole answer has a descriptor for each element that its header counts
+pub descriptors-told : (tagged : Bool) (t : Tables) (block : List ℕ) → length (pagesOf tagged t (chosenBy t block)) ≡ length (chosenBy t block)
+unfolding pagesOf
+descriptors-told tagged t block =
+    pages-pieces tagged t (sorted (ranges (t .head))) (chosenBy t block) ∙ once-hits (sorted (ranges (t .head))) (chosenBy t block) (once-chosen t block)
+
+-- ---- "ascending"
+
+rising-keep : (a : ℕ) (f : Slot → Bool) (ss : List Slot) → Rising a ss → Rising a (keep f ss)
+unfolding keep
+rising-keep a f [] r = tt
+rising-keep a f (s ∷ ss) r =
+    on (Rising a) (f s) (λ e. (r .0, rising-keep (suc (s .address)) f ss (r .1)))
+    (λ e. rising-lower a (suc (s .address)) (keep f ss) (omega (arith, r .0)) (rising-keep (suc (s .address)) f ss (r .1)))
+
+rising-take : (a n : ℕ) (ss : List Slot) → Rising a ss → Rising a (take n ss)
+rising-take a zero ss r = tt
+rising-take a (suc n) [] r = tt
+rising-take a (suc n) (s ∷ ss) r = (r .0, rising-take (suc (s .address)) n ss (r .1))
+
+pub chosen-rises : (t : Tables) (block : List ℕ) → sound t ≡ true → Rising 0 (chosenBy t block)
+unfolding chosenBy chosen
+chosen-rises t block e =
+    rising-take 0 (word block 4) _
+    (rising-keep 0 (atOrAbove (word block 2)) _ (rising-keep 0 (ofType (typeCode block)) (roster (t .head)) (roster-rises (t .head) (ranges-sound t e))))

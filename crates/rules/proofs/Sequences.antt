@@ -1,0 +1,56 @@
+-- Any sequence of calls ends where the rules, one by one, end; sound tables stay sound all along it. Assumes nothing.
+use Prim.Native.Nat.{ℕ}
+use mathlib.Core.Path.{_≡_, refl, sym, ap₂}
+use mathlib.Core.Logic.{_≢_, ⊎-elim}
+use mathlib.Core.Bool.{true}
+use mathlib.Core.List.{List, [], _∷_, List·Memᴰ, List·Memᴰ·not-nil, List·Memᴰ·cases-cons}
+use Rattle.rules.specs.Tables.{Tables, lent, Change, change, changes}
+use Rattle.rules.specs.Sound.{sound}
+use Rattle.rules.specs.Order.{Verdict, Number, Prevented, Done, Outcome, outcome, after}
+use Rattle.rules.specs.Command.{Call, verdict, bufferOf, serve}
+use Rattle.rules.specs.Histories.{next, run, outcomes, leaves, History, begun, called}
+use Rattle.rules.proofs.Keeps.{sound-stays}
+use Rattle.rules.proofs.Untouched.{sound-number}
+
+-- labels are never written
+changes-labels : (cs : List Change) (t : Tables) → (changes cs t .tags ≡ t .tags) × (changes cs t .blank ≡ t .blank)
+unfolding changes change
+changes-labels [] t = (refl, refl)
+changes-labels (c ∷ cs) t = changes-labels cs (change c t)
+
+same-labels : (u : Tables) (tags blank : List ℕ) → u .tags ≡ tags → u .blank ≡ blank → lent (u .head) (u .elements) tags blank ≡ u
+same-labels u tags blank e f = ap₂ (λ (x y : List ℕ). lent (u .head) (u .elements) x y) (sym e) (sym f)
+
+-- the tables that an outcome leaves are those that the next call finds
+pub leaves-next : (t : Tables) (c : Call) → leaves (serve t c) t ≡ next t c
+unfolding serve next
+leaves-next t c = go (verdict t c)
+  where
+    go : (v : Verdict) → leaves (outcome t (bufferOf c) v) t ≡ after v t
+    go (Number n) = unfold outcome after in refl
+    go (Prevented n h) = unfold outcome after in refl
+    go (Done status bytes cs) = unfold outcome after in same-labels (changes cs t) (t .tags) (t .blank) (changes-labels cs t .0) (changes-labels cs t .1)
+
+pub history-outcomes : {t u : Tables} {cs : List Call} {os : List Outcome} → History t cs os u → os ≡ outcomes t cs
+unfolding outcomes
+history-outcomes begun = refl
+history-outcomes (called {t = t} {c = c} {o = o} e hs) = let i = history-outcomes hs in let l = leaves-next t c in cc
+
+pub history-run : {t u : Tables} {cs : List Call} {os : List Outcome} → History t cs os u → u ≡ run t cs
+unfolding run
+history-run begun = refl
+history-run (called {t = t} {c = c} e hs) = let i = history-run hs in let l = leaves-next t c in cc
+
+pub next-sound : (t : Tables) (c : Call) (o : Outcome) → o ≡ serve t c → sound t ≡ true → sound (leaves o t) ≡ true
+next-sound t c o e s = rw (e, leaves-next t c) (sound-stays t c s)
+
+pub history-sound : {t u : Tables} {cs : List Call} {os : List Outcome} → History t cs os u → sound t ≡ true → sound u ≡ true
+history-sound begun s = s
+history-sound (called {t = t} {c = c} e hs) s = history-sound hs (next-sound t c _ e s)
+
+-- no call of it meets number 1
+pub history-numbers : {t u : Tables} {cs : List Call} {os : List Outcome} → History t cs os u → sound t ≡ true
+    → (o : Outcome) → List·Memᴰ o os → o .number ≢ 1
+history-numbers begun s o m = absurd (List·Memᴰ·not-nil m)
+history-numbers (called {t = t} {c = c} {o = x} e hs) s o m =
+    ⊎-elim (λ (i : o ≡ x). rw (i, e) (sound-number t c s)) (λ r. history-numbers hs (next-sound t c x e s) o r) (List·Memᴰ·cases-cons m)

@@ -1,0 +1,4 @@
+pub mod Tests
+pub mod Fits
+pub mod Guards
+pub mod Telling

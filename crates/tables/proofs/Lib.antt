@@ -1,0 +1,5 @@
+pub mod Sort
+pub mod Roster
+pub mod LookUp
+pub mod Fields
+pub mod Masks

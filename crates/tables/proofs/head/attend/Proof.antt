@@ -1,0 +1,27 @@
+-- `tables::head::attend` meets its contract. Assumes nothing.
+use mathlib.Core.Path.{_∙_}
+-- `tables::head::attend` meets its contract. Assumes nothing.
+use Rattle.rules.specs.Tables.{attended}
+use borrow.Author.Needs.{needs}
+use Rattle.tables.proofs.head.attend.Statement.{statement}
+use Rattle.tables.proofs.head.attend.Tie as tie
+
+host-at-requires : tie.Need-host-at-requires
+host-at-requires c κs = search needs
+
+add-put-two : tie.Need-add-put-two
+add-put-two c = search needs
+
+put-two-requires : tie.Need-put-two-requires
+put-two-requires c κs = search needs
+
+same-length : tie.Need-same-length
+same-length c = search needs
+
+returns : tie.Need-returns
+unfolding attended
+returns c = c .before .before .put-two .ensures ∙ rw (c .before .before .before .host-at .ensures)
+
+pub attend-spec : {M : Type 1} → statement M
+attend-spec =
+    tie.close (tie.spec host-at-requires add-put-two put-two-requires same-length returns)

@@ -1,0 +1,114 @@
+// The fields of the head, and the writes.
+ghost use mathlib.Core.Path.{_≡_};
+ghost use Prim.Native.Nat.{_+_, _≤_};
+ghost use lib.ListN.{length};
+ghost use Rattle.rules.specs.Tables.{headSize, hosts, hostAt, unit, mask, key, asc, ascq, attention, attentionq, unitHeld, masked, sensed, attended};
+
+const UNIT: usize = 16;
+
+const MASK: usize = 17;
+
+const HOSTS: usize = 13;
+
+const RECORD: usize = 5;
+
+const ATTENTION: usize = 3;
+
+// "Byte 16: unit holder"
+pub fn unit(head: &[u8]) -> u8
+    requires { ⌜ headSize ≤ length (now head) ⌝ }
+    ensures { λ r. ⌜ r ≡ unit (now (head .entry)) ⌝ }
+{
+    head[UNIT]
+}
+
+// "Byte 17: prevent mask"
+pub fn mask(head: &[u8]) -> u8
+    requires { ⌜ headSize ≤ length (now head) ⌝ }
+    ensures { λ r. ⌜ r ≡ mask (now (head .entry)) ⌝ }
+{
+    head[MASK]
+}
+
+// "Then for each host 5 bytes": where a host's begin.
+fn host_at(host: u8) -> usize
+    ensures { λ r. ⌜ r ≡ hostAt host ⌝ }
+{
+    HOSTS + RECORD * (host as usize)
+}
+
+// "sense key, ASC, ASCQ (zeros: none)"
+pub fn key(head: &[u8], host: u8) -> u8
+    requires { ⌜ headSize ≤ length (now head) ⌝ }
+    requires { ⌜ host ≤ hosts ⌝ }
+    ensures { λ r. ⌜ r ≡ key (now (head .entry)) host ⌝ }
+{
+    head[host_at(host)]
+}
+
+pub fn asc(head: &[u8], host: u8) -> u8
+    requires { ⌜ headSize ≤ length (now head) ⌝ }
+    requires { ⌜ host ≤ hosts ⌝ }
+    ensures { λ r. ⌜ r ≡ asc (now (head .entry)) host ⌝ }
+{
+    head[1 + host_at(host)]
+}
+
+pub fn ascq(head: &[u8], host: u8) -> u8
+    requires { ⌜ headSize ≤ length (now head) ⌝ }
+    requires { ⌜ host ≤ hosts ⌝ }
+    ensures { λ r. ⌜ r ≡ ascq (now (head .entry)) host ⌝ }
+{
+    head[2 + host_at(host)]
+}
+
+// "attention ASC, ASCQ (zeros: none)"
+pub fn attention(head: &[u8], host: u8) -> u8
+    requires { ⌜ headSize ≤ length (now head) ⌝ }
+    requires { ⌜ host ≤ hosts ⌝ }
+    ensures { λ r. ⌜ r ≡ attention (now (head .entry)) host ⌝ }
+{
+    head[ATTENTION + host_at(host)]
+}
+
+pub fn attentionq(head: &[u8], host: u8) -> u8
+    requires { ⌜ headSize ≤ length (now head) ⌝ }
+    requires { ⌜ host ≤ hosts ⌝ }
+    ensures { λ r. ⌜ r ≡ attentionq (now (head .entry)) host ⌝ }
+{
+    head[1 + (ATTENTION + host_at(host))]
+}
+
+// The unit's holder.
+pub fn hold_unit(head: &mut [u8], host: u8)
+    requires { ⌜ headSize ≤ length (now head) ⌝ }
+    ensures { λ _. ⌜ now (head .exit) ≡ unitHeld (now (head .entry)) host ⌝ }
+{
+    head[UNIT] = host;
+}
+
+// The prevent mask.
+pub fn set_mask(head: &mut [u8], mask: u8)
+    requires { ⌜ headSize ≤ length (now head) ⌝ }
+    ensures { λ _. ⌜ now (head .exit) ≡ masked (now (head .entry)) mask ⌝ }
+{
+    head[MASK] = mask;
+}
+
+// The host's sense; zeros clear it.
+pub fn note(head: &mut [u8], host: u8, key: u8, asc: u8, ascq: u8)
+    requires { ⌜ headSize ≤ length (now head) ⌝ }
+    requires { ⌜ host ≤ hosts ⌝ }
+    ensures { λ _. ⌜ now (head .exit) ≡ sensed (now (head .entry)) host key asc ascq ⌝ }
+{
+    wire::put_three(head, host_at(host), key, asc, ascq);
+}
+
+// The host's attention; zeros clear it.
+pub fn attend(head: &mut [u8], host: u8, asc: u8, ascq: u8)
+    requires { ⌜ headSize ≤ length (now head) ⌝ }
+    requires { ⌜ host ≤ hosts ⌝ }
+    ensures { λ _. ⌜ now (head .exit) ≡ attended (now (head .entry)) host asc ascq ⌝ }
+{
+    wire::put_two(head, ATTENTION + host_at(host), asc, ascq);
+}

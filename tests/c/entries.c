@@ -1,0 +1,276 @@
+/* Every entry of the C interface on the small library: granted and refused calls, canary bytes round every lent slice, empty slices by
+ * null pointers, numbers too large for a byte. Expected values are those of document 01. The last line counts: "N passed, M failed". */
+#include "smc.h"
+#include <stdio.h>
+#include <string.h>
+
+#define GUARD 16
+#define CANARY 0xC5
+
+/* A slice with canary bytes on both sides. */
+#define LENT(name, size) static uint8_t name##_room[(size) + 2 * GUARD], *const name = name##_room + GUARD
+
+LENT(head, SMC_HEAD_BYTES);
+LENT(elements, 7 * SMC_ELEMENT_BYTES);
+LENT(tags, 3 * SMC_TAG_BYTES);
+LENT(blank, SMC_TAG_BYTES);
+LENT(answer, 512);
+
+static uint8_t head_before[SMC_HEAD_BYTES], elements_before[7 * SMC_ELEMENT_BYTES], answer_before[512];
+static uint8_t tags_before[3 * SMC_TAG_BYTES], blank_before[SMC_TAG_BYTES];
+static int passed, failed;
+
+#define TABLES head, SMC_HEAD_BYTES, elements, 7 * SMC_ELEMENT_BYTES, tags, 3 * SMC_TAG_BYTES, blank, SMC_TAG_BYTES
+
+static void expect(int holds, const char *call, const char *what)
+{
+    if (holds) {
+        passed++;
+    } else {
+        failed++;
+        printf("FAILED %s: %s\n", call, what);
+    }
+}
+
+static void put16(uint8_t *at, unsigned value)
+{
+    at[0] = (uint8_t)(value >> 8);
+    at[1] = (uint8_t)value;
+}
+
+static void guard(uint8_t *room, size_t size, int fill)
+{
+    memset(room, CANARY, size + 2 * GUARD);
+    memset(room + GUARD, fill, size);
+}
+
+static int guarded(const uint8_t *room, size_t size)
+{
+    for (size_t i = 0; i < GUARD; i++)
+        if (room[i] != CANARY || room[GUARD + size + i] != CANARY)
+            return 0;
+    return 1;
+}
+
+/* "Transport 0001h, import/export 0010h, drive 0100h, storage 1000h to 1003h. Volume 1 at 1000h, 2 at 1002h". */
+static void small_library(void)
+{
+    static const unsigned ranges[4][2] = {{0x0001, 1}, {0x1000, 4}, {0x0010, 1}, {0x0100, 1}};
+    guard(head_room, SMC_HEAD_BYTES, 0);
+    guard(elements_room, 7 * SMC_ELEMENT_BYTES, 0);
+    guard(tags_room, 3 * SMC_TAG_BYTES, 0x41);
+    guard(blank_room, SMC_TAG_BYTES, 0x20);
+    guard(answer_room, 512, 0xEE);
+    for (int k = 0; k < 4; k++) {
+        put16(head + 4 * k, ranges[k][0]);
+        put16(head + 4 * k + 2, ranges[k][1]);
+    }
+    put16(elements + 3 * SMC_ELEMENT_BYTES, 1);
+    put16(elements + 5 * SMC_ELEMENT_BYTES, 2);
+}
+
+static void remember(void)
+{
+    memcpy(head_before, head, sizeof head_before);
+    memcpy(elements_before, elements, sizeof elements_before);
+    memcpy(answer_before, answer, sizeof answer_before);
+    memcpy(tags_before, tags, sizeof tags_before);
+    memcpy(blank_before, blank, sizeof blank_before);
+}
+
+/* What holds of every call: no canary touched, labels as they were, buffer as it was past the count. */
+static void always(const char *call, smc_reply reply)
+{
+    expect(guarded(head_room, SMC_HEAD_BYTES) && guarded(elements_room, 7 * SMC_ELEMENT_BYTES)
+               && guarded(tags_room, 3 * SMC_TAG_BYTES) && guarded(blank_room, SMC_TAG_BYTES) && guarded(answer_room, 512),
+           call, "a byte outside a lent slice changed");
+    expect(!memcmp(tags, tags_before, sizeof tags_before) && !memcmp(blank, blank_before, sizeof blank_before), call, "a label changed");
+    expect(reply.count <= 512 && !memcmp(answer + reply.count, answer_before + reply.count, 512 - reply.count), call,
+           "a byte of the answer past the count changed");
+}
+
+static int untouched(void)
+{
+    return !memcmp(head, head_before, sizeof head_before) && !memcmp(elements, elements_before, sizeof elements_before)
+           && !memcmp(answer, answer_before, sizeof answer_before);
+}
+
+static void refused(const char *call, smc_reply reply, int number)
+{
+    always(call, reply);
+    expect(reply.number == number, call, "another house number");
+    expect(reply.status == 0 && reply.count == 0, call, "status and count of a refusal");
+    expect(reply.number == 7 || (reply.preventers == 0 && reply.lowest == 0), call, "preventers of another number than 7");
+    expect(untouched(), call, "a refusal changed a byte");
+}
+
+static void ended(const char *call, smc_reply reply, int status, uint32_t count)
+{
+    always(call, reply);
+    expect(reply.number == 0, call, "a house number");
+    expect(reply.status == status, call, "another status");
+    expect(reply.count == count, call, "another count");
+    expect(reply.preventers == 0 && reply.lowest == 0, call, "preventers without number 7");
+}
+
+static void sense_is(const char *call, unsigned host, int key, int asc, int ascq)
+{
+    const uint8_t *record = head + 13 + 5 * host;
+    expect(record[0] == key && record[1] == asc && record[2] == ascq, call, "another sense");
+}
+
+static void element_is(const char *call, int place, unsigned volume, unsigned source, int holder, int id, int mark)
+{
+    const uint8_t *e = elements + place * SMC_ELEMENT_BYTES;
+    expect(e[0] * 256u + e[1] == volume && e[2] * 256u + e[3] == source && e[4] == holder && e[5] == id && e[6] == mark && e[7] == 0,
+           call, "another element record");
+}
+
+typedef smc_reply (*entry)(SMC_TABLES, SMC_COMMAND);
+
+static smc_reply send(entry to, uint32_t host, const uint8_t *block, size_t length)
+{
+    remember();
+    return to(TABLES, host, block, length, NULL, 0, answer, 512);
+}
+
+static const uint8_t ready[6] = {0x00}, sense18[6] = {0x03, 0, 0, 0, 18, 0}, prevent[6] = {0x1E, 0, 0, 0, 1, 0};
+static const uint8_t p1[12] = {0xA5, 0, 0, 0, 0x10, 0x00, 0x01, 0x00}, p2[12] = {0xA5, 0, 0, 0, 0x10, 0x01, 0x01, 0x00};
+static const uint8_t p7[12] = {0xA6, 0, 0, 0, 0x10, 0x00, 0x10, 0x02, 0x10, 0x00};
+static const uint8_t p12[12] = {0xB8, 2, 0, 0, 0, 2, 0, 0, 0, 48};
+
+/* Each named entry answers for any block: a move through every one of them. */
+static void every_entry_moves(void)
+{
+    static const struct {
+        const char *name;
+        entry to;
+    } entries[] = {{"smc_command", smc_command},           {"smc_test_unit_ready", smc_test_unit_ready},
+                   {"smc_request_sense", smc_request_sense}, {"smc_reserve", smc_reserve},
+                   {"smc_release", smc_release},           {"smc_prevent_allow", smc_prevent_allow},
+                   {"smc_move_medium", smc_move_medium},   {"smc_exchange_medium", smc_exchange_medium},
+                   {"smc_read_element_status", smc_read_element_status}};
+    for (size_t i = 0; i < sizeof entries / sizeof *entries; i++) {
+        small_library();
+        ended(entries[i].name, send(entries[i].to, 1, p1, 12), SMC_GOOD, 0);
+        element_is(entries[i].name, 2, 1, 0x1000, 0, 0, 0);
+        element_is(entries[i].name, 3, 0, 0, 0, 0, 0);
+        small_library();
+        refused(entries[i].name, send(entries[i].to, 257, p1, 12), SMC_UNKNOWN_HOST);
+        refused(entries[i].name, send(entries[i].to, 0, p1, 12), SMC_UNKNOWN_HOST);
+        refused(entries[i].name, send(entries[i].to, 1, p1, 11), SMC_BLOCK_LENGTH);
+        refused(entries[i].name, send(entries[i].to, 1, NULL, 0), SMC_BLOCK_LENGTH);
+        head[16] = 9;
+        refused(entries[i].name, send(entries[i].to, 1, p1, 12), SMC_TABLES_NOT_SOUND);
+    }
+}
+
+static void commands(void)
+{
+    small_library();
+    ended("ready", send(smc_test_unit_ready, 8, ready, 6), SMC_GOOD, 0);
+    ended("P2", send(smc_move_medium, 1, p2, 12), SMC_CHECK_CONDITION, 0);
+    sense_is("P2", 1, 5, 0x3B, 0x0E);
+    expect(!memcmp(elements, elements_before, sizeof elements_before), "P2", "a refusal moved a volume");
+    ended("sense", send(smc_request_sense, 1, sense18, 6), SMC_GOOD, 18);
+    static const uint8_t told[18] = {0x70, 0, 5, 0, 0, 0, 0, 0x0A, 0, 0, 0, 0, 0x3B, 0x0E};
+    expect(!memcmp(answer, told, 18), "sense", "other bytes");
+    sense_is("sense", 1, 0, 0, 0);
+    ended("P7", send(smc_exchange_medium, 1, p7, 12), SMC_GOOD, 0);
+    element_is("P7", 3, 2, 0x1002, 0, 0, 0);
+    element_is("P7", 5, 1, 0x1000, 0, 0, 0);
+    ended("prevent", send(smc_prevent_allow, 3, prevent, 6), SMC_GOOD, 0);
+    expect(head[17] == 0x04, "prevent", "another mask");
+}
+
+static void listings(void)
+{
+    static const uint8_t whole[48] = {0x10, 0, 0, 2, 0, 0, 0, 0x28, 2, 0, 0, 0x10, 0, 0, 0, 0x20, 0x10, 0, 9,
+                                      0,    0, 0, 0, 0, 0, 0, 0,    0, 0, 0, 0,    0, 0x10, 1, 8};
+    static const struct {
+        unsigned allocation, count;
+    } cuts[] = {{48, 48}, {47, 32}, {32, 32}, {31, 8}, {8, 8}, {7, 7}, {0, 0}};
+    for (size_t i = 0; i < sizeof cuts / sizeof *cuts; i++) {
+        uint8_t block[12];
+        memcpy(block, p12, 12);
+        block[9] = (uint8_t)cuts[i].allocation;
+        small_library();
+        ended("P12", send(smc_read_element_status, 1, block, 12), SMC_GOOD, cuts[i].count);
+        expect(!memcmp(answer, whole, cuts[i].count), "P12", "other bytes");
+        small_library();
+        remember();
+        smc_reply exact = smc_read_element_status(TABLES, 1, block, 12, NULL, 0, answer, cuts[i].count);
+        ended("P12, buffer exact", exact, SMC_GOOD, cuts[i].count);
+        if (cuts[i].count > 0) {
+            small_library();
+            remember();
+            smc_reply little = smc_read_element_status(TABLES, 1, block, 12, NULL, 0, answer, cuts[i].count - 1);
+            refused("P12, buffer too short", little, SMC_ANSWER_TOO_SHORT);
+        }
+    }
+}
+
+static void reservations(void)
+{
+    static const uint8_t hold[6] = {0x16, 1, 5, 0, 6, 0}, list[6] = {0, 0, 0, 2, 0x10, 0x01}, release[6] = {0x17, 1, 5, 0, 0, 0};
+    small_library();
+    remember();
+    ended("reserve", smc_reserve(TABLES, 2, hold, 6, list, 6, NULL, 0), SMC_GOOD, 0);
+    element_is("reserve", 4, 0, 0, 2, 5, 0);
+    element_is("reserve", 5, 2, 0, 2, 5, 0);
+    refused("reserve, list too short", send(smc_reserve, 2, hold, 6), SMC_PARAMETER_LENGTH);
+    remember();
+    ended("reserve, conflict", smc_reserve(TABLES, 1, hold, 6, list, 6, NULL, 0), SMC_RESERVATION_CONFLICT, 0);
+    expect(untouched(), "reserve, conflict", "a conflict changed a byte");
+    ended("release", send(smc_release, 2, release, 6), SMC_GOOD, 0);
+    element_is("release", 5, 2, 0, 0, 0, 0);
+}
+
+static void events(void)
+{
+    small_library();
+    remember();
+    refused("import at 65552", smc_import(TABLES, 65536 + 0x0010, 3), SMC_NO_IMPORT_EXPORT);
+    refused("import of 65539", smc_import(TABLES, 0x0010, 65536 + 3), SMC_WRONG_VOLUME);
+    refused("export", smc_export(TABLES, 0x0010), SMC_FULL_OR_EMPTY);
+    ended("import", smc_import(TABLES, 0x0010, 3), SMC_GOOD, 0);
+    element_is("import", 1, 3, 0, 0, 0, 1);
+    expect(head[21] == 0x28 && head[22] == 0x01 && head[56] == 0x28 && head[57] == 0x01, "import", "attention");
+    remember();
+    refused("import, full", smc_import(TABLES, 0x0010, 3), SMC_FULL_OR_EMPTY);
+    head[17] = 0x84;
+    remember();
+    smc_reply locked = smc_export(TABLES, 0x0010);
+    refused("export, prevented", locked, SMC_REMOVAL_PREVENTED);
+    expect(locked.preventers == 2 && locked.lowest == 3, "export, prevented", "other preventers");
+    ended("reset", smc_reset(TABLES), SMC_GOOD, 0);
+    expect(head[17] == 0 && head[21] == 0x29 && head[22] == 0x00, "reset", "mask or attention");
+    element_is("reset", 1, 3, 0, 0, 0, 1);
+    remember();
+    ended("export", smc_export(TABLES, 0x0010), SMC_GOOD, 0);
+    element_is("export", 1, 0, 0, 0, 0, 0);
+    expect(head[21] == 0x29, "export", "attention of the reset overwritten");
+}
+
+/* All slices empty: number 1, by null pointers. */
+static void nothing_lent(void)
+{
+    small_library();
+    remember();
+    refused("nothing lent", smc_command(NULL, 0, NULL, 0, NULL, 0, NULL, 0, 1, NULL, 0, NULL, 0, NULL, 0), SMC_TABLES_NOT_SOUND);
+    refused("nothing lent", smc_import(NULL, 0, NULL, 0, NULL, 0, NULL, 0, 1, 1), SMC_TABLES_NOT_SOUND);
+    refused("nothing lent", smc_export(NULL, 0, NULL, 0, NULL, 0, NULL, 0, 1), SMC_TABLES_NOT_SOUND);
+    refused("nothing lent", smc_reset(NULL, 0, NULL, 0, NULL, 0, NULL, 0), SMC_TABLES_NOT_SOUND);
+}
+
+int main(void)
+{
+    every_entry_moves();
+    commands();
+    listings();
+    reservations();
+    events();
+    nothing_lent();
+    printf("%d passed, %d failed\n", passed, failed);
+    return failed != 0;
+}

@@ -1,0 +1,154 @@
+//! One call made on an implementation, and the differences between two such.
+
+use std::fmt::Write;
+use std::hint::black_box;
+
+use reference::{Implementation, Reply, Tables};
+
+use crate::call::{hex, Call};
+use crate::guarded::{Guarded, MARGIN};
+use crate::scene::TableBytes;
+
+const SLICES: [&str; 7] = [
+    "head",
+    "elements",
+    "tags",
+    "blank",
+    "block",
+    "parameters",
+    "answer",
+];
+
+/// How a call ended: the reply and every lent byte.
+pub struct Made {
+    pub reply: Reply,
+    slices: [Guarded; 7],
+}
+
+impl Made {
+    pub fn head(&self) -> &[u8] {
+        self.slices[0].content()
+    }
+
+    pub fn elements(&self) -> &[u8] {
+        self.slices[1].content()
+    }
+
+    pub fn answer(&self) -> &[u8] {
+        self.slices[6].content()
+    }
+}
+
+pub fn make(
+    implementation: &dyn Implementation,
+    before: &TableBytes,
+    call: &Call,
+    margin: [u8; MARGIN],
+) -> Made {
+    let (block, parameters) = call.lent();
+    let mut slices = [
+        &before.head,
+        &before.elements,
+        &before.tags,
+        &before.blank,
+        block,
+        parameters,
+        call.answer(),
+    ]
+    .map(|content| Guarded::new(content, margin));
+    let [head, elements, tags, blank, block, parameters, answer] = &mut slices;
+    let tables = Tables {
+        head: head.content_mut(),
+        elements: elements.content_mut(),
+        tags: tags.content(),
+        blank: blank.content(),
+    };
+    let lent = (block.content(), parameters.content());
+    let reply = call.make(implementation, tables, lent, answer.content_mut());
+    // Foreign code may have written where only reading was allowed; the bytes are looked at afresh.
+    black_box(&mut slices);
+    Made { reply, slices }
+}
+
+/// One line for each field or slice that differs; none where the two agree.
+pub fn differences(expected: &Made, found: &Made) -> Vec<String> {
+    let fields = |reply: &Reply| {
+        [
+            ("number", u32::from(reply.number)),
+            ("status", u32::from(reply.status)),
+            ("preventers", u32::from(reply.preventers)),
+            ("lowest", u32::from(reply.lowest)),
+            ("count", reply.count),
+        ]
+    };
+    let mut lines = Vec::new();
+    let pairs = fields(&expected.reply)
+        .into_iter()
+        .zip(fields(&found.reply));
+    for ((name, expected), (_, found)) in pairs {
+        if expected != found {
+            lines.push(format!("{name}: expected {expected}, found {found}"));
+        }
+    }
+    for (at, name) in SLICES.into_iter().enumerate() {
+        let found = &found.slices[at];
+        lines.extend(slice_difference(name, &expected.slices[at], found));
+        if !found.margins_kept() {
+            lines.push(format!("{name}: bytes beside the slice were written"));
+        }
+    }
+    lines
+}
+
+fn slice_difference(name: &str, expected: &Guarded, found: &Guarded) -> Option<String> {
+    let pairs = expected.content().iter().zip(found.content());
+    let different: Vec<String> = pairs
+        .enumerate()
+        .filter(|(_, (expected, found))| expected != found)
+        .map(|(at, (expected, found))| format!("[{at}] {expected:02x}, found {found:02x}"))
+        .collect();
+    if different.is_empty() {
+        return None;
+    }
+    let shown = different[..different.len().min(8)].join("; ");
+    Some(format!(
+        "{name}: {} bytes differ: expected {shown}",
+        different.len()
+    ))
+}
+
+/// The tables before the call, the call, and both outcomes.
+pub fn describe(before: &TableBytes, call: &Call, expected: &Made, found: &Made) -> String {
+    let mut text = call.to_string();
+    for (at, range) in before.head.chunks(4).take(4).enumerate() {
+        let name = ["transport", "storage", "import/export", "drive"][at];
+        let _ = writeln!(text, "  range {name}: {}", hex(range));
+    }
+    let rest = before.head.get(16..).unwrap_or_default();
+    let _ = writeln!(
+        text,
+        "  head ({}) from byte 16: {}",
+        before.head.len(),
+        hex(rest)
+    );
+    let _ = writeln!(text, "  elements ({} bytes):", before.elements.len());
+    for (place, element) in before.elements.chunks(8).enumerate() {
+        if element.iter().any(|&byte| byte != 0) {
+            let _ = writeln!(text, "    place {place}: {}", hex(element));
+        }
+    }
+    let tags = before.tags.len();
+    let _ = writeln!(text, "  tags ({tags} bytes): V is {}", tags / 36);
+    let _ = writeln!(
+        text,
+        "  blank ({}): {}",
+        before.blank.len(),
+        hex(&before.blank)
+    );
+    let _ = writeln!(text, "  expected {:?}", expected.reply);
+    let _ = writeln!(text, "  found    {:?}", found.reply);
+    for line in differences(expected, found) {
+        let _ = writeln!(text, "  differs: {line}");
+    }
+    text
+}

@@ -1,0 +1,6 @@
+//! The inputs: sound tables, tables with broken clauses, and calls.
+
+pub mod calls;
+pub mod faults;
+pub mod lists;
+pub mod sound;

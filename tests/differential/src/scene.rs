@@ -1,0 +1,147 @@
+//! The four tables as owned bytes, together with the places they lay out.
+
+use reference::library::Kind;
+use reference::Tables;
+
+#[derive(Clone, Debug, Default, PartialEq, Eq)]
+pub struct TableBytes {
+    pub head: Vec<u8>,
+    pub elements: Vec<u8>,
+    pub tags: Vec<u8>,
+    pub blank: Vec<u8>,
+}
+
+impl TableBytes {
+    pub fn lend(&mut self) -> Tables<'_> {
+        Tables {
+            head: &mut self.head,
+            elements: &mut self.elements,
+            tags: &self.tags,
+            blank: &self.blank,
+        }
+    }
+}
+
+/// An element's address and kind; its place in the table is its place in [`Scene::places`].
+#[derive(Clone, Copy, Debug, PartialEq, Eq)]
+pub struct Place {
+    pub address: u16,
+    pub kind: Kind,
+}
+
+/// Tables to call upon. The places are those of the tables before any clause was broken.
+#[derive(Clone, Debug)]
+pub struct Scene {
+    pub tables: TableBytes,
+    pub places: Vec<Place>,
+}
+
+impl Scene {
+    /// The small library of document 01, with labels for three volumes.
+    pub fn small_library() -> Scene {
+        let ranges = [
+            [0x00, 0x01, 0, 1],
+            [0x10, 0x00, 0, 4],
+            [0x00, 0x10, 0, 1],
+            [0x01, 0x00, 0, 1],
+        ];
+        let place = |address: u16, kind: Kind| Place { address, kind };
+        let mut places = vec![
+            place(0x0001, Kind::Transport),
+            place(0x0010, Kind::ImportExport),
+            place(0x0100, Kind::Drive),
+        ];
+        places.extend((0x1000..=0x1003).map(|address| place(address, Kind::Storage)));
+        let mut scene = Scene {
+            tables: TableBytes {
+                head: [&ranges.concat()[..], &[0; 42]].concat(),
+                elements: vec![0; 56],
+                tags: (0..108).collect(),
+                blank: vec![0x20; 36],
+            },
+            places,
+        };
+        scene.set_volume(3, 1);
+        scene.set_volume(5, 2);
+        scene
+    }
+
+    /// The places whose kind and volume suit.
+    pub fn places_where(&self, suits: impl Fn(Kind, u16) -> bool) -> Vec<usize> {
+        (0..self.places.len())
+            .filter(|&place| suits(self.places[place].kind, self.volume(place)))
+            .collect()
+    }
+
+    pub fn is_element(&self, address: u32) -> bool {
+        self.places
+            .iter()
+            .any(|place| u32::from(place.address) == address)
+    }
+
+    pub fn element(&mut self, place: usize) -> &mut [u8] {
+        &mut self.tables.elements[8 * place..8 * place + 8]
+    }
+
+    /// 0 too where broken tables have no such element.
+    pub fn volume(&self, place: usize) -> u16 {
+        let elements = &self.tables.elements;
+        match elements.get(8 * place..8 * place + 2) {
+            Some(bytes) => u16::from_be_bytes([bytes[0], bytes[1]]),
+            None => 0,
+        }
+    }
+
+    pub fn set_volume(&mut self, place: usize, volume: u16) {
+        self.element(place)[..2].copy_from_slice(&volume.to_be_bytes());
+    }
+
+    pub fn set_source(&mut self, place: usize, source: u16) {
+        self.element(place)[2..4].copy_from_slice(&source.to_be_bytes());
+    }
+
+    pub fn hold(&mut self, place: usize, host: u8, id: u8) {
+        self.element(place)[4..6].copy_from_slice(&[host, id]);
+    }
+
+    pub fn set_mark(&mut self, place: usize, mark: u8) {
+        self.element(place)[6] = mark;
+    }
+
+    pub fn hold_unit(&mut self, host: u8) {
+        self.tables.head[16] = host;
+    }
+
+    /// 0 too where a broken head is too short to say.
+    pub fn unit_holder(&self) -> u8 {
+        self.tables.head.get(16).copied().unwrap_or(0)
+    }
+
+    pub fn set_prevent_mask(&mut self, mask: u8) {
+        self.tables.head[17] = mask;
+    }
+
+    /// Key, ASC, ASCQ, attention ASC, attention ASCQ of host 1 to 8.
+    pub fn host_record(&mut self, host: u8) -> &mut [u8] {
+        let at = 18 + 5 * (usize::from(host) - 1);
+        &mut self.tables.head[at..at + 5]
+    }
+
+    /// V.
+    pub fn volumes(&self) -> usize {
+        self.tables.tags.len() / 36
+    }
+
+    /// A volume number up to V that stands nowhere, if there is one.
+    pub fn absent_volume(&self) -> Option<u16> {
+        let mut present = vec![false; self.volumes() + 1];
+        for place in 0..self.places.len() {
+            if let Some(seen) = present.get_mut(usize::from(self.volume(place))) {
+                *seen = true;
+            }
+        }
+        (1..present.len())
+            .find(|&volume| !present[volume])
+            .map(|volume| volume as u16)
+    }
+}

@@ -1,0 +1,372 @@
+//! Which outcomes a run has reached, how often, and which it must reach to count.
+
+use std::collections::BTreeMap;
+use std::fmt;
+
+use reference::{check, Clause, Entry};
+
+use crate::call::Call;
+use crate::compare::Made;
+use crate::generate::calls::COMMANDS;
+use crate::scene::TableBytes;
+
+#[derive(Clone, Copy, Debug, PartialEq, Eq, PartialOrd, Ord)]
+pub enum Event {
+    Import,
+    Export,
+    Reset,
+}
+
+/// A command by its first byte, or an unknown one by the top three bits of it.
+#[derive(Clone, Copy, Debug, PartialEq, Eq, PartialOrd, Ord)]
+pub enum First {
+    Known(u8),
+    UnknownOfGroup(u8),
+}
+
+impl First {
+    fn of(block: &[u8]) -> Option<First> {
+        let &first = block.first()?;
+        Some(match COMMANDS.contains(&first) {
+            true => First::Known(first),
+            false => First::UnknownOfGroup(first >> 5),
+        })
+    }
+}
+
+/// How much of a listing was returned.
+#[derive(Clone, Copy, Debug, PartialEq, Eq, PartialOrd, Ord)]
+pub enum Cut {
+    Nothing,
+    PartOfHeader,
+    NothingChosen,
+    HeaderAlone,
+    WithinPage,
+    BetweenPages,
+    RoomForPageHeaderOnly,
+    WholeExactly,
+    WholeWithRoom,
+}
+
+/// What REQUEST SENSE told.
+#[derive(Clone, Copy, Debug, PartialEq, Eq, PartialOrd, Ord)]
+pub enum Told {
+    Sense,
+    SenseWhileAttentionWaits,
+    Attention,
+    Nothing,
+}
+
+/// How many of the 18 bytes REQUEST SENSE returned.
+#[derive(Clone, Copy, Debug, PartialEq, Eq, PartialOrd, Ord)]
+pub enum SenseCut {
+    None,
+    Part,
+    Exactly,
+    WithRoom,
+}
+
+/// The answer buffer beside the bytes returned.
+#[derive(Clone, Copy, Debug, PartialEq, Eq, PartialOrd, Ord)]
+pub enum Buffer {
+    Equal,
+    Longer,
+}
+
+#[derive(Clone, Copy, Debug, PartialEq, Eq, PartialOrd, Ord)]
+pub enum Outcome {
+    Entered(Entry),
+    CommandNumber(u8),
+    NumberOf(First, u8),
+    EventNumber(Event, u8),
+    Good(First),
+    Conflict(First),
+    Check(First, [u8; 3]),
+    Broken(Clause),
+    Listing(Cut),
+    Sense(Told, SenseCut),
+    Buffer(Buffer),
+    Preventers(u8),
+    Lowest(u8),
+}
+
+impl fmt::Display for First {
+    fn fmt(&self, out: &mut fmt::Formatter) -> fmt::Result {
+        match self {
+            First::Known(first) => write!(out, "{first:02X}h"),
+            First::UnknownOfGroup(group) => write!(out, "unknown, group {group}"),
+        }
+    }
+}
+
+impl fmt::Display for Outcome {
+    fn fmt(&self, out: &mut fmt::Formatter) -> fmt::Result {
+        let text = match self {
+            Outcome::Entered(entry) => format!("entry {entry:?}"),
+            Outcome::CommandNumber(number) => format!("command, house number {number}"),
+            Outcome::NumberOf(first, number) => format!("{first}: house number {number}"),
+            Outcome::EventNumber(event, number) => format!("{event:?}, house number {number}"),
+            Outcome::Good(first) => format!("{first}: GOOD"),
+            Outcome::Conflict(first) => format!("{first}: RESERVATION CONFLICT"),
+            Outcome::Check(first, [key, asc, ascq]) => {
+                format!("{first}: {key:X}/{asc:02X}/{ascq:02X}")
+            }
+            Outcome::Broken(clause) => format!("not sound: {clause}"),
+            Outcome::Listing(cut) => format!("listing: {cut:?}"),
+            Outcome::Sense(told, cut) => format!("REQUEST SENSE: {told:?}, {cut:?}"),
+            Outcome::Buffer(buffer) => format!("buffer: {buffer:?}"),
+            Outcome::Preventers(hosts) => format!("number 7, preventers {hosts}"),
+            Outcome::Lowest(host) => format!("number 7, lowest {host}"),
+        };
+        out.pad(&text)
+    }
+}
+
+#[derive(Clone, Debug, Default)]
+pub struct Tally {
+    reached: BTreeMap<Outcome, usize>,
+}
+
+impl Tally {
+    pub fn count(&mut self, before: &TableBytes, call: &Call, made: &Made) {
+        for outcome in outcomes(before, call, made) {
+            *self.reached.entry(outcome).or_default() += 1;
+        }
+    }
+
+    pub fn times(&self, outcome: Outcome) -> usize {
+        self.reached.get(&outcome).copied().unwrap_or(0)
+    }
+
+    /// The required outcomes that were never reached.
+    pub fn missing(&self) -> Vec<Outcome> {
+        let never = |outcome: &Outcome| self.times(*outcome) == 0;
+        required().into_iter().filter(never).collect()
+    }
+}
+
+impl fmt::Display for Tally {
+    fn fmt(&self, out: &mut fmt::Formatter) -> fmt::Result {
+        for (outcome, times) in &self.reached {
+            writeln!(out, "  {outcome:<52} {times:>8}")?;
+        }
+        Ok(())
+    }
+}
+
+fn outcomes(before: &TableBytes, call: &Call, made: &Made) -> Vec<Outcome> {
+    let mut reached = Vec::new();
+    let number = made.reply.number;
+    match call {
+        Call::Command {
+            entry, host, block, ..
+        } => {
+            reached.push(Outcome::Entered(*entry));
+            reached.push(Outcome::CommandNumber(number));
+            if let Some(first) = First::of(block) {
+                reached.extend(command_outcomes(before, *host, first, block, made));
+            }
+        }
+        Call::Import { .. } => reached.push(Outcome::EventNumber(Event::Import, number)),
+        Call::Export { .. } => reached.push(Outcome::EventNumber(Event::Export, number)),
+        Call::Reset => reached.push(Outcome::EventNumber(Event::Reset, number)),
+    }
+    if number == 1 {
+        reached.extend(check(&before.clone().lend()).err().map(Outcome::Broken));
+    }
+    if number == 7 {
+        reached.push(Outcome::Preventers(made.reply.preventers));
+        reached.push(Outcome::Lowest(made.reply.lowest));
+    }
+    reached
+}
+
+fn command_outcomes(
+    before: &TableBytes,
+    host: u32,
+    first: First,
+    block: &[u8],
+    made: &Made,
+) -> Vec<Outcome> {
+    let reply = made.reply;
+    if reply.number != 0 {
+        return vec![Outcome::NumberOf(first, reply.number)];
+    }
+    let record = 18 + 5 * (host as usize - 1);
+    match (reply.status, first) {
+        (0x18, _) => vec![Outcome::Conflict(first)],
+        (0x02, _) => {
+            let sense = &made.head()[record..record + 3];
+            vec![Outcome::Check(first, [sense[0], sense[1], sense[2]])]
+        }
+        (_, First::Known(0x03)) => {
+            let told = told(&before.head[record..record + 5]);
+            let sense = Outcome::Sense(told, sense_cut(block[4]));
+            vec![Outcome::Good(first), sense, buffer(made)]
+        }
+        (_, First::Known(0xB8)) => {
+            let listing = Outcome::Listing(cut(block, made));
+            vec![Outcome::Good(first), listing, buffer(made)]
+        }
+        _ => vec![Outcome::Good(first)],
+    }
+}
+
+fn buffer(made: &Made) -> Outcome {
+    Outcome::Buffer(match made.answer().len() == made.reply.count as usize {
+        true => Buffer::Equal,
+        false => Buffer::Longer,
+    })
+}
+
+fn told(record: &[u8]) -> Told {
+    match (record[0] != 0, record[3] != 0) {
+        (true, false) => Told::Sense,
+        (true, true) => Told::SenseWhileAttentionWaits,
+        (false, true) => Told::Attention,
+        (false, false) => Told::Nothing,
+    }
+}
+
+fn sense_cut(allocation: u8) -> SenseCut {
+    match allocation {
+        0 => SenseCut::None,
+        1..=17 => SenseCut::Part,
+        18 => SenseCut::Exactly,
+        _ => SenseCut::WithRoom,
+    }
+}
+
+fn three(bytes: &[u8]) -> usize {
+    bytes[..3]
+        .iter()
+        .fold(0, |sum, &byte| sum << 8 | usize::from(byte))
+}
+
+fn cut(block: &[u8], made: &Made) -> Cut {
+    let allocation = three(&block[7..]);
+    let returned = &made.answer()[..made.reply.count as usize];
+    if returned.len() < 8 {
+        return if returned.is_empty() {
+            Cut::Nothing
+        } else {
+            Cut::PartOfHeader
+        };
+    }
+    let whole = 8 + three(&returned[5..]);
+    match returned.len() {
+        8 if whole == 8 => Cut::NothingChosen,
+        8 => Cut::HeaderAlone,
+        count if count == whole && allocation == whole => Cut::WholeExactly,
+        count if count == whole => Cut::WholeWithRoom,
+        _ if !ends_with_a_page(returned) => Cut::WithinPage,
+        count if allocation >= count + 8 => Cut::RoomForPageHeaderOnly,
+        _ => Cut::BetweenPages,
+    }
+}
+
+fn ends_with_a_page(returned: &[u8]) -> bool {
+    let mut page = 8;
+    while page < returned.len() {
+        page += 8 + three(&returned[page + 5..]);
+    }
+    page == returned.len()
+}
+
+/// The outcomes without which a run has not tried document 01.
+pub fn required() -> Vec<Outcome> {
+    let mut required = Vec::new();
+    required.extend(Entry::ALL.map(Outcome::Entered));
+    required.extend((0..=5).map(Outcome::CommandNumber));
+    required.extend(required_numbers());
+    for first in COMMANDS {
+        required.extend(required_statuses(first));
+    }
+    for group in 0..8 {
+        let unknown = First::UnknownOfGroup(group);
+        required.push(Outcome::Check(unknown, [5, 0x20, 0x00]));
+    }
+    required.extend(Clause::ALL.map(Outcome::Broken));
+    required.extend(required_listings());
+    required.extend((1..=8).map(Outcome::Preventers));
+    required.extend((1..=8).map(Outcome::Lowest));
+    required
+}
+
+fn required_numbers() -> Vec<Outcome> {
+    let mut required = Vec::new();
+    for number in [1, 2, 3, 4] {
+        required.extend(COMMANDS.map(|first| Outcome::NumberOf(First::Known(first), number)));
+    }
+    for group in [0, 1, 2, 4, 5] {
+        required.push(Outcome::NumberOf(First::UnknownOfGroup(group), 3));
+    }
+    for first in [0x03, 0xB8] {
+        required.push(Outcome::NumberOf(First::Known(first), 5));
+    }
+    for number in [0, 1, 6, 7, 8, 9] {
+        required.push(Outcome::EventNumber(Event::Import, number));
+    }
+    for number in [0, 1, 6, 7, 8] {
+        required.push(Outcome::EventNumber(Event::Export, number));
+    }
+    for number in [0, 1] {
+        required.push(Outcome::EventNumber(Event::Reset, number));
+    }
+    required
+}
+
+fn required_statuses(first: u8) -> Vec<Outcome> {
+    let known = First::Known(first);
+    let senses: &[[u8; 3]] = match first {
+        0x16 => &[[5, 0x1A, 0x00], [5, 0x26, 0x00], [5, 0x21, 0x01]],
+        0xA5 | 0xA6 => &[[5, 0x21, 0x01], [5, 0x3B, 0x0E], [5, 0x3B, 0x0D]],
+        _ => &[],
+    };
+    let check = |sense: &[u8; 3]| Outcome::Check(known, *sense);
+    let mut required: Vec<Outcome> = senses.iter().map(check).collect();
+    required.push(Outcome::Good(known));
+    required.push(check(&[5, 0x24, 0x00]));
+    if first != 0x03 {
+        required.push(check(&[6, 0x28, 0x01]));
+        required.push(check(&[6, 0x29, 0x00]));
+    }
+    if first != 0x03 && first != 0x17 {
+        required.push(Outcome::Conflict(known));
+    }
+    required
+}
+
+fn required_listings() -> Vec<Outcome> {
+    let mut required: Vec<Outcome> = [
+        Cut::Nothing,
+        Cut::PartOfHeader,
+        Cut::NothingChosen,
+        Cut::HeaderAlone,
+        Cut::WithinPage,
+        Cut::BetweenPages,
+        Cut::RoomForPageHeaderOnly,
+        Cut::WholeExactly,
+        Cut::WholeWithRoom,
+    ]
+    .map(Outcome::Listing)
+    .into();
+    for told in [
+        Told::Sense,
+        Told::SenseWhileAttentionWaits,
+        Told::Attention,
+        Told::Nothing,
+    ] {
+        for cut in [
+            SenseCut::None,
+            SenseCut::Part,
+            SenseCut::Exactly,
+            SenseCut::WithRoom,
+        ] {
+            required.push(Outcome::Sense(told, cut));
+        }
+    }
+    required.push(Outcome::Buffer(Buffer::Equal));
+    required.push(Outcome::Buffer(Buffer::Longer));
+    required
+}

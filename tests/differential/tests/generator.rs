@@ -1,0 +1,84 @@
+//! The generated tables are what they are meant to be.
+
+use std::collections::BTreeSet;
+
+use differential::generate::{faults, sound};
+use differential::random::Random;
+use differential::scene::Scene;
+use reference::library::Kind;
+use reference::{check, Clause};
+
+fn scenes(number: usize) -> Vec<Scene> {
+    let mut random = Random::new(1);
+    (0..number).map(|_| sound::scene(&mut random)).collect()
+}
+
+#[test]
+fn generated_tables_are_sound() {
+    for mut scene in scenes(4_000) {
+        assert_eq!(check(&scene.tables.lend()), Ok(()), "{scene:?}");
+    }
+}
+
+#[test]
+fn generated_tables_reach_the_edges_of_soundness() {
+    let scenes = scenes(4_000);
+    let kinds = |scene: &Scene, kind: Kind| scene.places_where(|found, _| found == kind).len();
+    let some = |suits: &dyn Fn(&Scene) -> bool| scenes.iter().any(suits);
+    assert!(some(&|scene| scene.places.len() == 2));
+    assert!(some(&|scene| scene.places.len() == 512));
+    assert!(some(&|scene| kinds(scene, Kind::Transport) == 127));
+    assert!(some(&|scene| kinds(scene, Kind::Storage) == 0));
+    assert!(some(&|scene| kinds(scene, Kind::ImportExport) == 0));
+    assert!(some(&|scene| scene.places[0].address == 1));
+    assert!(some(&|scene| scene.is_element(65_535)));
+    assert!(some(
+        &|scene| scene.is_element(1) && scene.is_element(65_535)
+    ));
+    assert!(some(&|scene| scene.volumes() == 0));
+    assert!(some(&|scene| scene.volumes() == 512));
+    assert!(some(
+        &|scene| scene.absent_volume().is_none() && scene.volumes() > 5
+    ));
+}
+
+#[test]
+fn the_kinds_come_in_every_address_order() {
+    let order = |scene: &Scene| -> Vec<Kind> {
+        let mut kinds: Vec<Kind> = scene.places.iter().map(|place| place.kind).collect();
+        kinds.dedup();
+        kinds
+    };
+    let orders: BTreeSet<Vec<Kind>> = scenes(4_000).iter().map(order).collect();
+    let of_length = |length: usize| orders.iter().filter(|order| order.len() == length).count();
+    // Transport with storage or import/export; those two or drives besides; all four.
+    assert_eq!([of_length(2), of_length(3), of_length(4)], [4, 18, 24]);
+}
+
+#[test]
+fn each_clause_is_broken_as_asked_and_none_before_it() {
+    let mut random = Random::new(2);
+    for clause in Clause::ALL {
+        for _ in 0..200 {
+            let mut scene = faults::broken_scene(&mut random, clause);
+            assert_eq!(check(&scene.tables.lend()), Err(clause), "{scene:?}");
+        }
+    }
+}
+
+#[test]
+fn two_clauses_broken_are_not_sound() {
+    let mut random = Random::new(3);
+    for _ in 0..2_000 {
+        let mut scene = faults::doubly_broken_scene(&mut random);
+        assert!(check(&scene.tables.lend()).is_err(), "{scene:?}");
+    }
+}
+
+#[test]
+fn the_same_seed_gives_the_same_numbers() {
+    // The first outputs of splitmix64 from state 0, as its authors publish them.
+    let mut random = Random::new(0);
+    assert_eq!(random.word(), 0xE220_A839_7B1D_CDAF);
+    assert_eq!(random.word(), 0x6E78_9E6A_A1B9_65F4);
+}

@@ -1,0 +1,88 @@
+//! Long histories on the reference: what must hold after any of them.
+
+use std::collections::BTreeSet;
+
+use differential::call::Call;
+use differential::compare::make;
+use differential::generate::{calls, sound};
+use differential::random::Random;
+use differential::scene::{Scene, TableBytes};
+use reference::{check, Reference, Reply};
+
+fn volumes(tables: &TableBytes) -> BTreeSet<u32> {
+    let volume = |element: &[u8]| u32::from(u16::from_be_bytes([element[0], element[1]]));
+    let volumes = tables.elements.chunks(8).map(volume);
+    volumes.filter(|&volume| volume != 0).collect()
+}
+
+/// Makes the call on the reference and carries the tables on.
+fn happen(scene: &mut Scene, call: &Call) -> Reply {
+    let made = make(&Reference::default(), &scene.tables, call, [0xA5; 16]);
+    scene.tables.head = made.head().to_vec();
+    scene.tables.elements = made.elements().to_vec();
+    made.reply
+}
+
+/// The volumes that should be present after the call: those before, plus an import, less an export.
+fn volumes_after(scene: &Scene, call: &Call, number: u8) -> BTreeSet<u32> {
+    let mut present = volumes(&scene.tables);
+    match *call {
+        Call::Import { volume, .. } if number == 0 => {
+            present.insert(volume);
+        }
+        Call::Export { address } if number == 0 => {
+            let exported = |place: &usize| u32::from(scene.places[*place].address) == address;
+            let place = (0..scene.places.len()).find(exported);
+            present.remove(&place.map_or(0, |place| scene.volume(place).into()));
+        }
+        _ => {}
+    }
+    present
+}
+
+#[test]
+fn tables_stay_sound_and_no_volume_is_lost_or_found() {
+    let mut random = Random::new(11);
+    for history in 0..60 {
+        let mut scene = match history % 2 {
+            0 => sound::small_scene(&mut random),
+            _ => sound::scene(&mut random),
+        };
+        for _ in 0..200 {
+            let call = calls::plausible(&mut random, &scene);
+            let before = scene.clone();
+            let reply = happen(&mut scene, &call);
+            let expected = volumes_after(&before, &call, reply.number);
+            assert_eq!(check(&scene.tables.lend()), Ok(()), "{call}");
+            assert_eq!(volumes(&scene.tables), expected, "{call}");
+            if reply.number != 0 {
+                assert_eq!(scene.tables, before.tables, "{call}");
+            }
+        }
+    }
+}
+
+#[test]
+fn histories_move_import_and_export() {
+    let mut random = Random::new(12);
+    let (mut moved, mut imported, mut exported) = (0, 0, 0);
+    for _ in 0..60 {
+        let mut scene = sound::small_scene(&mut random);
+        for _ in 0..200 {
+            let call = calls::plausible(&mut random, &scene);
+            let reply = happen(&mut scene, &call);
+            let good = usize::from(reply.number == 0 && reply.status == 0);
+            match call {
+                Call::Import { .. } => imported += good,
+                Call::Export { .. } => exported += good,
+                _ if [Some(&0xA5), Some(&0xA6)].contains(&call.lent().0.first()) => moved += good,
+                _ => {}
+            }
+        }
+    }
+    let enough = moved > 500 && imported > 100 && exported > 100;
+    assert!(
+        enough,
+        "{moved} moves, {imported} imports, {exported} exports"
+    );
+}

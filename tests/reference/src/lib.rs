@@ -1,0 +1,151 @@
+//! The rules of document 01 over plain records.
+//!
+//! The lent bytes are read into a [`library::Library`], the rules work on that, and the result is written
+//! back. It is meant to be read beside document 01 and to be compared with the command core; it is not
+//! meant to be fast.
+
+mod bytes;
+mod command;
+mod element_status;
+mod events;
+mod interface;
+pub mod library;
+mod moves;
+mod records;
+mod refusal;
+mod reservations;
+mod rules;
+mod sense;
+mod soundness;
+
+pub use interface::{Entry, Implementation, Reply, Request, Tables};
+pub use refusal::Refusal;
+pub use rules::{Mutation, Rules};
+pub use soundness::{check, Clause};
+
+use command::{Outcome, Unsuccessful};
+use library::{Labels, Library};
+
+/// The reference: faithful by default, with one mistake if its rules say so.
+#[derive(Clone, Copy, Debug, Default)]
+pub struct Reference {
+    pub rules: Rules,
+}
+
+pub fn command(tables: Tables, request: Request) -> Reply {
+    Reference::default().command(tables, request)
+}
+
+pub fn import(tables: Tables, address: u32, volume: u32) -> Reply {
+    Reference::default().import(tables, address, volume)
+}
+
+pub fn export(tables: Tables, address: u32) -> Reply {
+    Reference::default().export(tables, address)
+}
+
+pub fn reset(tables: Tables) -> Reply {
+    Reference::default().reset(tables)
+}
+
+impl Reference {
+    fn read(&self, tables: &Tables) -> Result<Library, Refusal> {
+        let records = soundness::judge(tables, self.rules).map_err(Refusal::NotSound)?;
+        Ok(records.library())
+    }
+
+    fn try_command(&self, tables: &mut Tables, request: Request) -> Result<Reply, Refusal> {
+        let mut library = self.read(tables)?;
+        let labels = labels(tables);
+        let call = command::accept(&request, labels, self.rules)?;
+        let outcome = command::execute(&mut library, &call);
+        let room = command::accept_answer_buffer(&call, &outcome, request.answer.len());
+        let writes_anyway = Mutation::BufferTooShortStillClearsSense;
+        if room.is_ok() || self.rules.broken_by(writes_anyway) {
+            records::write(&library, tables);
+        }
+        room?;
+        Ok(finish(outcome, request.answer))
+    }
+
+    /// An event that changes the library, or is refused and changes nothing.
+    fn event(
+        &self,
+        mut tables: Tables,
+        happens: impl FnOnce(&mut Library, Labels) -> Result<(), Refusal>,
+    ) -> Reply {
+        let result = self.read(&tables).and_then(|mut library| {
+            happens(&mut library, labels(&tables))?;
+            records::write(&library, &mut tables);
+            Ok(Reply::default())
+        });
+        result.unwrap_or_else(Refusal::reply)
+    }
+}
+
+fn labels<'a>(tables: &Tables<'a>) -> Labels<'a> {
+    Labels {
+        tags: tables.tags,
+        blank: tables.blank,
+    }
+}
+
+/// "An answer buffer keeps every byte past the count returned."
+fn finish(outcome: Outcome, answer: &mut [u8]) -> Reply {
+    let (status, returned) = match outcome {
+        Ok(bytes) => (0x00, bytes),
+        Err(Unsuccessful::CheckCondition(_)) => (0x02, Vec::new()),
+        Err(Unsuccessful::ReservationConflict) => (0x18, Vec::new()),
+    };
+    for (place, byte) in answer.iter_mut().zip(&returned) {
+        *place = *byte;
+    }
+    Reply {
+        status,
+        count: returned.len() as u32,
+        ..Reply::default()
+    }
+}
+
+/// A named entry handed any block answers what the entry for any block answers.
+macro_rules! same_as_command {
+    ($($entry:ident),*) => {
+        $(fn $entry(&self, tables: Tables, request: Request) -> Reply {
+            self.command(tables, request)
+        })*
+    };
+}
+
+impl Implementation for Reference {
+    fn command(&self, mut tables: Tables, request: Request) -> Reply {
+        self.try_command(&mut tables, request)
+            .unwrap_or_else(Refusal::reply)
+    }
+
+    same_as_command!(test_unit_ready, request_sense, reserve, release);
+    same_as_command!(
+        prevent_allow,
+        move_medium,
+        exchange_medium,
+        read_element_status
+    );
+
+    fn import(&self, tables: Tables, address: u32, volume: u32) -> Reply {
+        self.event(tables, |library, labels| {
+            events::import(library, labels, (address, volume), self.rules)
+        })
+    }
+
+    fn export(&self, tables: Tables, address: u32) -> Reply {
+        self.event(tables, |library, _| {
+            events::export(library, address, self.rules)
+        })
+    }
+
+    fn reset(&self, tables: Tables) -> Reply {
+        self.event(tables, |library, _| {
+            events::reset(library, self.rules);
+            Ok(())
+        })
+    }
+}

@@ -1,0 +1,138 @@
+//! Deliberate mistakes. A comparison that does not find each of them is no comparison.
+
+use crate::soundness::Clause;
+
+/// One mistake in an otherwise faithful implementation.
+#[derive(Clone, Copy, Debug, PartialEq, Eq)]
+pub enum Mutation {
+    /// The tables are taken as sound although this clause is broken.
+    NotJudged(Clause),
+
+    // House numbers.
+    HostCutToOneByte,
+    EventAddressCutToTwoBytes,
+    ImportedVolumeCutToTwoBytes,
+    BlockLengthJudgedForKnownCommandsOnly,
+    ParametersJudgedForUnknownCommands,
+    BufferJudgedByAllocation,
+    BufferTooShortStillClearsSense,
+    PreventionJudgedAfterOccupancy,
+    HighestPreventerTold,
+
+    // The order of steps, and sense.
+    AttentionBeforeFirstByte,
+    BitsBeforeUnitHolder,
+    ReleaseMeetsUnitHolder,
+    IgnoredBitsJudged,
+    SenseSharedByAllHosts,
+    ConflictStoresSense,
+    ConflictKeepsSense,
+    AttentionToldBeforeSense,
+    ToldSenseStays,
+
+    // Moves.
+    MarkLeftAfterMove,
+    HolderOfTransportZeroIgnored,
+    OccupancyBeforeHolders,
+    PreventionHindersMoves,
+    SwapWritesSourceBeforeReadingIt,
+    SecondVolumeLost,
+    SourceAsSecondIsFull,
+
+    // Reservations.
+    FailedReserveFreesOldId,
+    GrantedReserveKeepsOldId,
+    ElementNamedTwiceIsHeldOnce,
+    AddressBeforeReservedBytes,
+    ConflictBeforeLaterFaults,
+    OneElementTooMany,
+    OwnElementUnderAnotherIdTaken,
+    UnitReservedOverHeldElements,
+    IdIgnoredInRelease,
+    ReleaseOfUnitKeepsElements,
+
+    // READ ELEMENT STATUS.
+    CountsCutToAllocation,
+    PagesInOrderOfType,
+    PageHeaderAlone,
+    LabelOfTheVolumeBefore,
+    MarkNotShown,
+
+    // Events.
+    ImportOverwritesResetAttention,
+    ExportTellsNoHost,
+    ImportFreesTheElement,
+    ResetKeepsPreventMask,
+    ResetKeepsOlderAttention,
+}
+
+impl Mutation {
+    /// Every mutation but [`Mutation::NotJudged`].
+    #[rustfmt::skip]
+    pub const SINGLE: [Mutation; 45] = [
+        Mutation::HostCutToOneByte,
+        Mutation::EventAddressCutToTwoBytes,
+        Mutation::ImportedVolumeCutToTwoBytes,
+        Mutation::BlockLengthJudgedForKnownCommandsOnly,
+        Mutation::ParametersJudgedForUnknownCommands,
+        Mutation::BufferJudgedByAllocation,
+        Mutation::BufferTooShortStillClearsSense,
+        Mutation::PreventionJudgedAfterOccupancy,
+        Mutation::HighestPreventerTold,
+        Mutation::AttentionBeforeFirstByte,
+        Mutation::BitsBeforeUnitHolder,
+        Mutation::ReleaseMeetsUnitHolder,
+        Mutation::IgnoredBitsJudged,
+        Mutation::SenseSharedByAllHosts,
+        Mutation::ConflictStoresSense,
+        Mutation::ConflictKeepsSense,
+        Mutation::AttentionToldBeforeSense,
+        Mutation::ToldSenseStays,
+        Mutation::MarkLeftAfterMove,
+        Mutation::HolderOfTransportZeroIgnored,
+        Mutation::OccupancyBeforeHolders,
+        Mutation::PreventionHindersMoves,
+        Mutation::SwapWritesSourceBeforeReadingIt,
+        Mutation::SecondVolumeLost,
+        Mutation::SourceAsSecondIsFull,
+        Mutation::FailedReserveFreesOldId,
+        Mutation::GrantedReserveKeepsOldId,
+        Mutation::ElementNamedTwiceIsHeldOnce,
+        Mutation::AddressBeforeReservedBytes,
+        Mutation::ConflictBeforeLaterFaults,
+        Mutation::OneElementTooMany,
+        Mutation::OwnElementUnderAnotherIdTaken,
+        Mutation::UnitReservedOverHeldElements,
+        Mutation::IdIgnoredInRelease,
+        Mutation::ReleaseOfUnitKeepsElements,
+        Mutation::CountsCutToAllocation,
+        Mutation::PagesInOrderOfType,
+        Mutation::PageHeaderAlone,
+        Mutation::LabelOfTheVolumeBefore,
+        Mutation::MarkNotShown,
+        Mutation::ImportOverwritesResetAttention,
+        Mutation::ExportTellsNoHost,
+        Mutation::ImportFreesTheElement,
+        Mutation::ResetKeepsPreventMask,
+        Mutation::ResetKeepsOlderAttention,
+    ];
+}
+
+/// The rules an implementation follows: those of document 01, or those with one mistake.
+#[derive(Clone, Copy, Debug, Default, PartialEq, Eq)]
+pub struct Rules {
+    pub mutation: Option<Mutation>,
+}
+
+impl Rules {
+    pub fn with(mutation: Mutation) -> Rules {
+        Rules {
+            mutation: Some(mutation),
+        }
+    }
+
+    /// Whether the mistake is to be made; never so under the rules of document 01.
+    pub(crate) fn broken_by(self, mutation: Mutation) -> bool {
+        self.mutation == Some(mutation)
+    }
+}
