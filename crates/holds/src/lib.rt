@@ -33,16 +33,6 @@ pub enum Ruling {
 
 // ---- what stands in the element table
 
-// Held, and not by this host.
-fn other(host: u8, owner: u8) -> bool
-    ensures { λ r. ⌜ r ≡ other host owner ⌝ }
-{
-    if owner == 0 {
-        return false;
-    }
-    owner != host
-}
-
 // Whether another host holds any element.
 fn any_other(elements: &[u8], host: u8) -> bool
     ensures { λ r. ⌜ r ≡ anyOther (now (elements .entry)) host ⌝ }
@@ -50,7 +40,7 @@ fn any_other(elements: &[u8], host: u8) -> bool
     let n = tables::element::places(elements);
     let mut p: usize = 0;
     while p < n {
-        if other(host, tables::element::holder(elements, p)) {
+        if order::other(host, tables::element::holder(elements, p)) {
             return true;
         }
         p += 1;
@@ -64,7 +54,7 @@ fn taken_at(elements: &[u8], host: u8, id: u8, place: usize) -> bool
     ensures { λ r. ⌜ r ≡ taken (now (elements .entry)) host id place ⌝ }
 {
     let owner = tables::element::holder(elements, place);
-    if other(host, owner) {
+    if order::other(host, owner) {
         return true;
     }
     if owner == host {

@@ -69,11 +69,7 @@ fn held_by_other(elements: &[u8], host: u8, place: usize) -> bool
     requires { ⌜ elementAt place + elementSize ≤ length (now elements) ⌝ }
     ensures { λ r. ⌜ r ≡ other host (holder (now (elements .entry)) place) ⌝ }
 {
-    let owner = tables::element::holder(elements, place);
-    if owner == 0 {
-        return false;
-    }
-    owner != host
+    order::other(host, tables::element::holder(elements, place))
 }
 
 // MOVE, steps 6 to 8: the transport's place, the source's, the destination's.

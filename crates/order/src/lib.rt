@@ -4,7 +4,7 @@ ghost use mathlib.Core.List.{List, []};
 ghost use Prim.Native.Nat.{ℕ, _+_, _≤_};
 ghost use lib.ListN.{length};
 ghost use Rattle.rules.specs.Tables.{headSize, hosts, lent};
-ghost use Rattle.rules.specs.Order.{outcome, good as goodVerdict, check as checkVerdict, conflict as conflictVerdict, stray as strayIn};
+ghost use Rattle.rules.specs.Order.{outcome, other as otherThan, good as goodVerdict, check as checkVerdict, conflict as conflictVerdict, stray as strayIn};
 ghost use Rattle.order.specs.Ending.{ended, numbered as numberedOf, told as toldOf};
 
 // What a call hands back beside the tables and the answer buffer.
@@ -41,6 +41,16 @@ pub fn told(status: u8, count: u32) -> Reply
         lowest: 0,
         count,
     }
+}
+
+// Held, and not by this host.
+pub fn other(host: u8, owner: u8) -> bool
+    ensures { λ r. ⌜ r ≡ otherThan host owner ⌝ }
+{
+    if owner == 0 {
+        return false;
+    }
+    owner != host
 }
 
 // Whether a bit without a use is set: the masks have those bits of each byte of the block from byte 1 on.

@@ -5,3 +5,4 @@ pub mod Refusals
 pub mod Demand3
 pub mod Sequences
 pub mod Volumes
+pub mod Listings

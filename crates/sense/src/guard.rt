@@ -21,11 +21,7 @@ fn held_by_other(head: &[u8], host: u8) -> bool
     requires { ⌜ headSize ≤ length (now head) ⌝ }
     ensures { λ r. ⌜ r ≡ other host (unit (now (head .entry))) ⌝ }
 {
-    let owner = tables::head::unit(head);
-    if owner == 0 {
-        return false;
-    }
-    owner != host
+    order::other(host, tables::head::unit(head))
 }
 
 // "2. Attention pending .. 3. Unit held by another host"

@@ -1,9 +1,9 @@
--- `holds::other` meets its contract. Assumes nothing.
+-- `order::other` meets its contract. Assumes nothing.
 use mathlib.Core.Path.{refl}
 use Rattle.rules.specs.Choice.{differ}
 use Rattle.rules.proofs.Rungs.{nobody, somebody}
-use Rattle.holds.proofs.other.Statement.{statement}
-use Rattle.holds.proofs.other.Tie as tie
+use Rattle.order.proofs.other.Statement.{statement}
+use Rattle.order.proofs.other.Tie as tie
 
 returns : tie.Need-returns
 returns c = nobody _ _ (c .if1 .taken)
