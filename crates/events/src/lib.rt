@@ -14,12 +14,6 @@ ghost use Rattle.rules.specs.Events.{present as presentIn, wrongVolume, importi
 ghost use Rattle.order.specs.Ending.{ended};
 ghost use Rattle.events.specs.Judged.{portAt, preventedBy, restartedAt, meaning, Within};
 
-// "3 import/export"
-const PORT: u8 = 3;
-
-// "host 1 to 8"
-const HOSTS: u8 = 8;
-
 // What import or export comes to: a house number, number 7 with how many hosts prevent removal and the lowest such host, or an element
 // to fill with a volume (0 empties it) and a mark.
 pub enum Ruling {
@@ -37,7 +31,7 @@ fn port_at(head: &[u8], address: u32) -> Found
     let Found::At(place) = tables::find(rs, address) else {
         return Found::Nothing;
     };
-    if tables::kind_at(rs, place) == PORT {
+    if tables::kind_at(rs, place) == tables::PORT {
         return Found::At(place);
     }
     Found::Nothing
@@ -148,7 +142,7 @@ fn announce(head: &mut [u8], asc: u8, ascq: u8)
     ensures { λ _. ⌜ now (head .exit) ≡ announced (now (head .entry)) asc ascq ⌝ }
 {
     let mut host: u8 = 1;
-    while host <= HOSTS {
+    while host <= tables::HOSTS {
         announce_to(head, host, asc, ascq);
         host += 1;
     }
@@ -240,7 +234,7 @@ fn restart(head: &mut [u8])
     ensures { λ _. ⌜ ((elements tags blank : List ℕ) → lent (now (head .exit)) elements tags blank ≡ changes (restartedFrom hosts 1) (lent (now (head .entry)) elements tags blank)) ⌝ }
 {
     let mut host: u8 = 1;
-    while host <= HOSTS {
+    while host <= tables::HOSTS {
         restart_host(head, host);
         host += 1;
     }

@@ -35,7 +35,7 @@ fn transport_at(rs: [Range; 4], address: u32) -> Found
     let Found::At(p) = tables::find(rs, address) else {
         return Found::Nothing;
     };
-    if tables::kind_at(rs, p) == 1 {
+    if tables::kind_at(rs, p) == tables::TRANSPORT {
         return Found::At(p);
     }
     Found::Nothing
@@ -48,7 +48,7 @@ fn spot_at(rs: [Range; 4], address: u32) -> Found
     let Found::At(p) = tables::find(rs, address) else {
         return Found::Nothing;
     };
-    if tables::kind_at(rs, p) <= 1 {
+    if tables::kind_at(rs, p) <= tables::TRANSPORT {
         return Found::Nothing;
     }
     Found::At(p)

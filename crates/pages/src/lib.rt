@@ -10,10 +10,6 @@ ghost use Rattle.rules.specs.Roster.{slots, port};
 ghost use Rattle.rules.specs.Listing.{flags as flagsOf, sourceStands, label as labelOf, front as frontOf, fourZeros, descriptor, width as widthOf, pageHeader, header as headerOf};
 ghost use Rattle.pages.specs.Pages.{stock, Labelled, slot, descriptors, used, shown};
 
-const TRANSPORT: u8 = 1;
-
-const PORT: u8 = 3;
-
 const LABEL: usize = 36;
 
 const HEADER: usize = 8;
@@ -130,10 +126,10 @@ fn port_flags(volume: u16, mark: u8) -> u8
 fn flags(kind: u8, volume: u16, mark: u8) -> u8
     ensures { λ r. ⌜ r ≡ flagsOf kind volume mark ⌝ }
 {
-    if kind == TRANSPORT {
+    if kind == tables::TRANSPORT {
         return 0x00;
     }
-    if kind == PORT {
+    if kind == tables::PORT {
         return port_flags(volume, mark);
     }
     if volume == 0 {

@@ -11,14 +11,6 @@ ghost use Rattle.rules.specs.Sound.{transportEmpty, sourceSound, markSound, sto
 ghost use Rattle.tables.specs.Ranges.{meaning, meant, rosterOf};
 ghost use Rattle.sound.specs.Checks.{Typed, lies, stocksIn, stocks};
 
-const SIZE: usize = 8;
-
-const TRANSPORT: u8 = 1;
-
-const PORT: u8 = 3;
-
-const HOSTS: u8 = 8;
-
 // An address lies in a range.
 fn lies_in(r: Range, address: u32) -> bool
     ensures { λ b. ⌜ b ≡ lies (meaning r) address ⌝ }

@@ -11,10 +11,6 @@ ghost use Rattle.rules.specs.Sound.{within, rangeSound, noOverlap, clear, range
 ghost use Rattle.tables.specs.Ranges.{meaning, meant, noRange};
 ghost use Rattle.sound_head.specs.Counts.{countsFit};
 
-const SIZE: usize = 58;
-
-const HOSTS: u8 = 8;
-
 const BEHIND_LAST: u32 = 65536;
 
 // low to high, both ends included
