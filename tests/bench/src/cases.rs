@@ -110,6 +110,10 @@ fn case(name: &'static str, call: Call, elements: u16) -> Case {
 }
 
 impl Case {
+    pub fn ready(elements: u16) -> Case {
+        case("TEST UNIT READY", plain(&[0; 6]), elements)
+    }
+
     pub fn listing(elements: u16) -> Case {
         case("READ, tags", read_with_tags(), elements)
     }

@@ -26,3 +26,10 @@ fn best_of(samples: usize, calls: u32, call: &mut impl FnMut()) -> Duration {
     };
     (0..samples).map(sample).min().unwrap_or_default()
 }
+
+/// The least of three measurements: what disturbs one of them adds to it.
+pub fn best_of_three(mut work: impl FnMut()) -> f64 {
+    (0..3)
+        .map(|_| nanoseconds(&mut work))
+        .fold(f64::INFINITY, f64::min)
+}
