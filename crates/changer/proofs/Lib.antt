@@ -1,6 +1,1 @@
-pub mod Paper
-pub mod Lengths
-pub mod Numbers
 pub mod Ends
-pub mod Guards
-pub mod Supply

@@ -1,7 +1,5 @@
-// The order of judging, and the entries that a C front end calls. An entry asks nothing of its caller: any bytes, any lengths, any numbers.
-pub mod judging;
+// House numbers round the steps, and the entries that a C front end calls. An entry asks nothing of its caller: any bytes, any lengths, any numbers.
 pub mod serving;
-pub mod steps;
 
 use order::Reply;
 ghost use mathlib.Core.Path.{_≡_};

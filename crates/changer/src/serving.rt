@@ -19,20 +19,20 @@ pub fn serve<'a>(
     ensures { λ r. ⌜ ended r (now (head .exit)) (now (elements .exit)) (now (answer .exit)) ≡ command (lent (now (head .entry)) (now (elements .entry)) (now (tags .entry)) (now (blank .entry))) host (now (block .entry)) (now (parameters .entry)) (now (answer .entry)) ⌝ }
 {
     let whole = sound::sound(head, elements, tags, blank);
-    let known = super::judging::known_host(host);
+    let known = steps::judging::known_host(host);
     if !whole {
         return order::numbered(1);
     }
     if !known {
         return order::numbered(2);
     }
-    if !super::judging::block_fits(block) {
+    if !steps::judging::block_fits(block) {
         return order::numbered(3);
     }
-    if !super::judging::parameters_fit(block, parameters) {
+    if !steps::judging::parameters_fit(block, parameters) {
         return order::numbered(4);
     }
-    super::steps::steps(
+    steps::steps(
         head,
         elements,
         tags,

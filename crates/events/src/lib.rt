@@ -1,4 +1,5 @@
 // The three events: import, export and reset. House number 1 is judged before they are called; numbers 6 to 9 are judged here.
+use holds::Whose;
 use order::Reply;
 use tables::Found;
 ghost use mathlib.Core.Path.{_≡_};
@@ -6,7 +7,7 @@ ghost use mathlib.Core.Bool.{true};
 ghost use mathlib.Core.List.{List, []};
 ghost use Prim.Native.Nat.{ℕ, _*_, _≤_};
 ghost use lib.ListN.{length};
-ghost use Rattle.rules.specs.Tables.{headSize, elementSize, hosts, places, volumes, lent, changes, announcedTo, announced, freed, Anyone};
+ghost use Rattle.rules.specs.Tables.{headSize, elementSize, hosts, places, volumes, lent, changes, announcedTo, announced};
 ghost use Rattle.rules.specs.Roster.{roster};
 ghost use Rattle.rules.specs.Sound.{sound};
 ghost use Rattle.rules.specs.Order.{outcome};
@@ -206,25 +207,13 @@ pub fn export<'a>(
     settle(head, elements, ruling)
 }
 
-// "frees all reservations": those of the elements
-fn free_all(elements: &mut [u8])
-    ensures { λ _. ⌜ now (elements .exit) ≡ freed Anyone (now (elements .entry)) ⌝ }
-{
-    let n = tables::element::places(elements);
-    let mut place: usize = 0;
-    while place < n {
-        tables::element::hold(elements, place, 0, 0);
-        place += 1;
-    }
-}
-
 // "clears .. sense, sets attention 29h/00h": of one host
 fn restart_host(head: &mut [u8], host: u8)
     requires { ⌜ headSize ≤ length (now head) ⌝ }
     requires { ⌜ host ≤ hosts ⌝ }
     ensures { λ _. ⌜ now (head .exit) ≡ restartedAt host (now (head .entry)) ⌝ }
 {
-    tables::head::note(head, host, 0, 0, 0);
+    tables::head::wipe(head, host);
     tables::head::attend(head, host, 0x29, 0x00);
 }
 
@@ -246,7 +235,7 @@ pub fn reset<'a>(head: &mut [u8], elements: &mut [u8], tags: &'a [u8], blank: &'
     ensures { λ r. ⌜ ended r (now (head .exit)) (now (elements .exit)) [] ≡ outcome (lent (now (head .entry)) (now (elements .entry)) (now (tags .entry)) (now (blank .entry))) [] (resetting (lent (now (head .entry)) (now (elements .entry)) (now (tags .entry)) (now (blank .entry)))) ⌝ }
 {
     tables::head::hold_unit(head, 0);
-    free_all(elements);
+    holds::free(elements, Whose::Anyone);
     tables::head::set_mask(head, 0);
     restart(head);
     order::told(0x00, 0)

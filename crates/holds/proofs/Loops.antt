@@ -1,5 +1,5 @@
 -- The turns of the loops over descriptors and elements. Assumes nothing.
-use Prim.Native.Nat.{ℕ, _+_, _-_, _<_, _≤_}
+use Prim.Native.Nat.{ℕ, _+_, _-_, _/_, _<_, _≤_}
 use native.Mathlib.Omega.{arith}
 use mathlib.Core.Path.{_≡_, refl, sym, ap, _∙_}
 use mathlib.Core.Bool.{Bool, true, false}
@@ -10,11 +10,12 @@ use Rattle.rules.specs.Choice.{each, anyOf, allOf, differ, when}
 use Rattle.rules.specs.Tables.{holder, id, held, heldAt, Whose, theirs, freedAt}
 use Rattle.rules.specs.Roster.{Slot}
 use Rattle.rules.specs.Order.{other}
-use Rattle.rules.specs.Holds.{descriptors, first, many, taken, takes}
+use Rattle.rules.specs.Holds.{descriptorSize, descriptors, first, many, taken, takes}
 use Rattle.rules.proofs.Ladder.{yes, no, each-last}
 use Rattle.lists.specs.declared.Span.{Span}
 use Rattle.lists.specs.Named.{spanAt, Inside}
 use Rattle.lists.proofs.Searches.{Passed, found-there, found-nowhere}
+use Rattle.lists.proofs.Faults.{span-names}
 use Rattle.holds.specs.Judged.{heldBy}
 
 -- ---- steps one after the other, from i on: ys is what those before p have made of xs
@@ -36,16 +37,21 @@ module _ (f : ℕ → List ℕ → List ℕ) (i : ℕ) (xs : List ℕ) where
   pub stepped-all : (n p : ℕ) (ys : List ℕ) → Stepped f i xs p ys → p ≡ i + n → ys ≡ each f n i xs
   stepped-all n p ys so-far e = let d : p - i ≡ n = omega arith in so-far ∙ rw d
 
+-- the same over the list's descriptors, where the loop goes from place to place
+pub stepped-next : (f : ℕ → List ℕ → List ℕ) (xs : List ℕ) (at after : ℕ) (ys zs : List ℕ) → Stepped f 0 xs (at / descriptorSize) ys
+    → zs ≡ f (at / descriptorSize) ys → after ≡ at + descriptorSize → Stepped f 0 xs (after / descriptorSize) zs
+stepped-next f xs at after ys zs so-far t d =
+    let k : after / descriptorSize ≡ at / descriptorSize + 1 = omega arith in
+    rw k (stepped-more f 0 xs (at / descriptorSize) ys zs (omega arith) so-far t)
+
 -- ---- what the k-th descriptor names
 
 module _ (ss : List Slot) (list : List ℕ) (k : ℕ) (s : Span) (is : s ≡ spanAt ss list k) where
   pub span-first : s .first ≡ first ss list k
-  unfolding spanAt
-  span-first = ap (λ (x : Span). x .first) is
+  span-first = ap (λ (x : Span). x .first) (is ∙ span-names ss list k)
 
   pub span-end : s .end ≡ s .first + many ss list k
-  unfolding spanAt
-  span-end = ap (λ (x : Span). x .end) is ∙ rw span-first
+  span-end = ap (λ (x : Span). x .end) (is ∙ span-names ss list k) ∙ rw span-first
 
   pub span-inside : Inside ss list → k < descriptors list → s .end ≤ length ss
   span-inside f h = rw is (f k h)

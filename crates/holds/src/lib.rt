@@ -5,11 +5,11 @@ use order::Reply;
 use tables::Range;
 ghost use mathlib.Core.Path.{_≡_};
 ghost use mathlib.Core.List.{List};
-ghost use Prim.Native.Nat.{ℕ, _+_, _-_, _*_, _<_, _≤_};
+ghost use Prim.Native.Nat.{ℕ, _+_, _-_, _*_, _≤_};
 ghost use lib.ListN.{length};
 ghost use Rattle.rules.specs.Tables.{headSize, elementSize, elementAt, hosts, lent, held, theirs, freedAt, freed};
 ghost use Rattle.rules.specs.Roster.{roster};
-ghost use Rattle.rules.specs.Order.{outcome, other, good};
+ghost use Rattle.rules.specs.Order.{outcome, good};
 ghost use Rattle.rules.specs.Holds.{taken, conflicts, reserve, releaseUnit, release, newMask, prevent};
 ghost use Rattle.order.specs.Ending.{ended};
 ghost use Rattle.tables.specs.Ranges.{rosterOf};
@@ -69,11 +69,12 @@ fn conflicts(rs: [Range; 4], elements: &[u8], host: u8, id: u8, list: &[u8]) -> 
     requires { ⌜ Inside (rosterOf rs) (now list) ⌝ }
     ensures { λ r. ⌜ r ≡ conflicts (rosterOf rs) (now (elements .entry)) host id (now (list .entry)) ⌝ }
 {
-    let n = lists::count(list);
+    let stop = lists::stop(list);
     let mut bad = false;
-    let mut k: usize = 0;
-    'judged: while k < n {
-        let s = lists::span_at(rs, list, k);
+    let mut at: usize = 0;
+    'judged: while at < stop {
+        let d = reader::read_at(list, at);
+        let s = lists::span_of(rs, d);
         let end = s.end;
         let mut p = s.first;
         while p < end {
@@ -83,7 +84,7 @@ fn conflicts(rs: [Range; 4], elements: &[u8], host: u8, id: u8, list: &[u8]) -> 
             }
             p += 1;
         }
-        k += 1;
+        at = d.after;
     }
     bad
 }
@@ -198,11 +199,12 @@ fn grant(rs: [Range; 4], elements: &mut [u8], host: u8, id: u8, list: &[u8])
     ensures { λ _. ⌜ now (elements .exit) ≡ granting (rosterOf rs) host id (now (list .entry)) (now (elements .entry)) ⌝ }
 {
     free(elements, Whose::Under(host, id));
-    let n = lists::count(list);
-    let mut k: usize = 0;
-    while k < n {
-        hold_span(elements, lists::span_at(rs, list, k), host, id);
-        k += 1;
+    let stop = lists::stop(list);
+    let mut at: usize = 0;
+    while at < stop {
+        let d = reader::read_at(list, at);
+        hold_span(elements, lists::span_of(rs, d), host, id);
+        at = d.after;
     }
 }
 

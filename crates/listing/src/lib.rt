@@ -366,6 +366,6 @@ pub fn read_element_status<'a>(
     if number != 0 {
         return r;
     }
-    tables::head::note(head, host, 0, 0, 0);
+    tables::head::wipe(head, host);
     r
 }

@@ -1,6 +1,5 @@
 -- What a descriptor names and its fault, from what the code reads; the first fault of a list; and what it means. Assumes nothing.
-use Prim.Native.Nat.{ℕ, zero, suc, _+_, _-_, _<_, _≤_}
-use native.Mathlib.Numerals.{add-one}
+use Prim.Native.Nat.{ℕ, zero, suc, _+_, _-_, _*_, _/_, _%_, _<_, _≤_}
 use native.Mathlib.Omega.{arith}
 use mathlib.Core.Path.{_≡_, refl, sym, ap, _∙_}
 use mathlib.Core.Bool.{Bool, true, false}
@@ -11,18 +10,20 @@ use borrow.Author.Tests.{eq-eqb, ltb-false, ltb-true, le-leb, lt-leb, ne-eqb}
 use Rattle.rules.specs.Choice.{when, anyOf, differ}
 use Rattle.rules.specs.Roster.{Slot, roster, placeOf, kindOf}
 use Rattle.rules.specs.Order.{Verdict, check}
-use Rattle.rules.specs.Holds.{descriptors, reservedBytes, number, address, first, many, unknown, tooMany, meet, namedBefore, wrongAddress, faultsFrom}
+use Rattle.rules.specs.Holds.{descriptorSize, descriptors, reservedBytes, number, address, first, many, unknown, tooMany, meet, namedBefore, wrongAddress, faultsFrom}
 use Rattle.rules.proofs.Ladder.{yes, no, eq-not, le-is, le-not, lt-is, lt-not, differ-is, differ-not, when-true, either}
 use Rattle.rules.proofs.Places.{kind-at}
 use Rattle.tables.specs.declared.Found.{Found}
 use Rattle.tables.specs.declared.Found.the-variants.{At, Nothing}
 use Rattle.tables.specs.LookUp.{found}
 use Rattle.tables.proofs.LookUp.{at-place, at-below, kind-place, kind-past}
-use Rattle.lists.specs.declared.Descriptor.{Descriptor}
+use Rattle.reader.specs.declared.Step.{Step}
+use Rattle.reader.specs.Read.{stepAt}
+use Rattle.reader.proofs.Places.{the-kth, next-place}
 use Rattle.lists.specs.declared.Span.{Span}
 use Rattle.lists.specs.declared.Fault.{Fault}
 use Rattle.lists.specs.declared.Fault.the-variants.{Code, None}
-use Rattle.lists.specs.Named.{described, spanAt, meets, meetsBefore, wrong, faultBy, faultAt, orElse, faultFrom, faultIn, told, Inside}
+use Rattle.lists.specs.Named.{spanOf, spanAt, meets, meetsBefore, wrong, faultBy, faultOf, faultAt, orElse, faultFrom, faultIn, told, Inside}
 
 -- ---- the place of an address that is no element's
 
@@ -51,96 +52,109 @@ end-all total p n h e = rw (when-true (eqb n 0) (total - p) n (eq-eqb n 0 e)) (o
 pub end-some : (total p n : ℕ) → (n ≡ 0 → ⊥) → p + n ≡ p + when (eqb n 0) (total - p) n
 end-some total p n e = ap (λ (m : ℕ). p + m) (eq-not n 0 (total - p) n n e refl)
 
--- ---- the k-th descriptor, as it was read
+-- ---- the descriptor d: what it names, and its fault at a place of the list
 
-module _ (ss : List Slot) (list : List ℕ) (k : ℕ) (d : Descriptor) (is : d ≡ described list k) where
-  module _ (total p e : ℕ) (all : total ≡ length ss) (ends : e ≡ p + when (eqb (d .number) 0) (total - p) (d .number)) where
-    pub span-is : p ≡ placeOf ss (d .address) → record { first = p; end = e } ≡ spanAt ss list k
-    unfolding spanAt first many described
-    span-is at = rw (ends, all, at, is)
+pub span-is : (ss : List Slot) (d : Step) (total p e : ℕ) → total ≡ length ss → e ≡ p + when (eqb (d .number) 0) (total - p) (d .number)
+    → p ≡ placeOf ss (d .address) → record { first = p; end = e } ≡ spanOf ss d
+unfolding spanOf
+span-is ss d total p e all ends here = rw (ends, all, here)
 
-  pub fault-reserved : (d .reserved ≡ 0 → ⊥) → Code 0x26 0x00 ≡ faultAt ss list k
-  unfolding faultAt described
-  fault-reserved t = differ-is _ _ _ _ _ (λ z. t (ap (λ (x : Descriptor). x .reserved) is ∙ z)) refl
+module _ (ss : List Slot) (list : List ℕ) (at : ℕ) (d : Step) where
+  pub fault-reserved : (d .reserved ≡ 0 → ⊥) → Code 0x26 0x00 ≡ faultOf ss list at d
+  unfolding faultOf
+  fault-reserved t = differ-is _ _ _ _ _ t refl
 
   module _ (t : d .reserved ≡ 0) (f : Found) (look : f ≡ found ss (d .address)) where
-    clean : (x : Fault) → x ≡ when (leb (length ss) (first ss list k)) wrong (when (tooMany ss list k) wrong (when (namedBefore ss list k) wrong None))
-        → x ≡ faultAt ss list k
-    unfolding faultAt described
-    clean x w = differ-not _ _ _ _ _ (sym (ap (λ (y : Descriptor). y .reserved) is) ∙ t) w
+    clean : (x : Fault)
+        → x ≡ when (leb (length ss) (spanOf ss d .first)) wrong (when (ltb (length ss) (spanOf ss d .end)) wrong (when (meetsBefore ss list at (spanOf ss d)) wrong None))
+        → x ≡ faultOf ss list at d
+    unfolding faultOf
+    clean x w = differ-not _ _ _ _ _ t w
 
-    there : placeOf ss (d .address) ≡ first ss list k
-    unfolding first described
-    there = ap (λ (x : Descriptor). placeOf ss (x .address)) is
+    pub fault-unknown : f ≡ Nothing → wrong ≡ faultOf ss list at d
+    unfolding spanOf
+    fault-unknown e = clean _ (le-is (length ss) (placeOf ss (d .address)) _ _ _ (omega (arith, none-place ss (d .address) f look e)) refl)
 
-    pub fault-unknown : f ≡ Nothing → wrong ≡ faultAt ss list k
-    fault-unknown e = clean _ (le-is (length ss) (first ss list k) _ _ _ (omega (arith, none-place ss (d .address) f look e, there)) refl)
+    module _ (p total e : ℕ) (there : f ≡ At p) (all : total ≡ length ss) (ends : e ≡ p + when (eqb (d .number) 0) (total - p) (d .number)) where
+      spanned : record { first = p; end = e } ≡ spanOf ss d
+      spanned = span-is ss d total p e all ends (at-place ss (d .address) f look p there)
 
-    module _ (p total e : ℕ) (at : f ≡ At p) (all : total ≡ length ss) (ends : e ≡ p + when (eqb (d .number) 0) (total - p) (d .number)) where
-      spanned : record { first = p; end = e } ≡ spanAt ss list k
-      spanned = span-is total p e all ends (at-place ss (d .address) f look p at)
+      known : (x : Fault) → x ≡ when (ltb (length ss) e) wrong (when (meetsBefore ss list at (record { first = p; end = e })) wrong None) → x ≡ faultOf ss list at d
+      known x w = clean x (rw (sym spanned) (le-not (length ss) p _ _ _ (at-below ss (d .address) f look p there) w))
 
-      known : (x : Fault) → x ≡ when (tooMany ss list k) (wrong) (when (namedBefore ss list k) (wrong) None) → x ≡ faultAt ss list k
-      known x w = clean x (le-not (length ss) (first ss list k) _ _ _ (omega (arith, at-below ss (d .address) f look p at, at-place ss (d .address) f look p at, there)) w)
+      pub fault-many : total < e → wrong ≡ faultOf ss list at d
+      fault-many h = known _ (lt-is (length ss) e _ _ _ (omega arith) refl)
 
-      end-is : e ≡ first ss list k + many ss list k
-      unfolding spanAt
-      end-is = ap (λ (s : Span). s .end) spanned
+      module _ (h : e ≤ total) (r : Bool) (before : r ≡ meetsBefore ss list at (record { first = p; end = e })) where
+        within : (x : Fault) → x ≡ when (meetsBefore ss list at (record { first = p; end = e })) wrong None → x ≡ faultOf ss list at d
+        within x w = known x (lt-not (length ss) e _ _ _ (omega arith) w)
 
-      pub fault-many : total < e → wrong ≡ faultAt ss list k
-      unfolding tooMany
-      fault-many h = known _ (lt-is (length ss) (first ss list k + many ss list k) _ _ _ (omega (arith, end-is)) refl)
+        pub fault-named : r ≡ true → wrong ≡ faultOf ss list at d
+        fault-named b = within _ (yes r _ _ _ _ before b refl)
 
-      module _ (h : e ≤ total) (r : Bool) (before : r ≡ meetsBefore ss list k (record { first = p; end = e })) where
-        before-is : r ≡ namedBefore ss list k
-        unfolding namedBefore meetsBefore meet meets spanAt
-        before-is = before ∙ ap (meetsBefore ss list k) spanned
+        pub fault-none : r ≡ false → None ≡ faultOf ss list at d
+        fault-none b = within _ (no r _ _ _ _ before b refl)
 
-        within : (x : Fault) → x ≡ when (namedBefore ss list k) (wrong) None → x ≡ faultAt ss list k
-        unfolding tooMany
-        within x w = known x (lt-not (length ss) (first ss list k + many ss list k) _ _ _ (omega (arith, end-is)) w)
-
-        pub fault-named : r ≡ true → wrong ≡ faultAt ss list k
-        fault-named b = within _ (yes r _ _ _ _ before-is b refl)
-
-        pub fault-none : r ≡ false → None ≡ faultAt ss list k
-        fault-none b = within _ (no r _ _ _ _ before-is b refl)
-
--- ---- the first fault: the n descriptors of the list, of which k had none
+-- ---- the first fault: of the descriptors up to the place stop, those before the place at had none
 
 module _ (ss : List Slot) (list : List ℕ) where
   abbrev pub Judged : ℕ → ℕ → Type 0
-  Judged n k = (k ≤ n) × (faultIn ss list ≡ faultFrom ss list (n - k) k)
+  Judged stop at = (at % descriptorSize ≡ 0) × (faultIn ss list ≡ faultFrom ss list ((stop - at) / descriptorSize) (at / descriptorSize))
 
-  pub judged-start : (n : ℕ) → n ≡ descriptors list → Judged n 0
-  unfolding faultIn
-  judged-start n e = (omega arith, rw (sym e) (ap (λ (m : ℕ). faultFrom ss list m 0) (let z : n ≡ n - 0 = omega arith in z)))
+  module _ (stop : ℕ) (last : stop ≡ descriptorSize * descriptors list) where
+    pub judged-start : Judged stop 0
+    unfolding faultIn
+    judged-start = (refl, let z : (stop - 0) / descriptorSize ≡ descriptors list = omega arith in rw z)
 
-  module _ (n k : ℕ) (so-far : Judged n k) where
-    module _ (h : k < n) (x : Fault) (is : x ≡ faultAt ss list k) where
-      turn : faultIn ss list ≡ orElse x (faultFrom ss list (n - (k + 1)) (k + 1))
+    module _ (at : ℕ) (so-far : Judged stop at) where
+      module _ (h : at < stop) (d : Step) (read : d ≡ stepAt list at) (x : Fault) (is : x ≡ faultOf ss list at d) where
+        turn : faultIn ss list ≡ orElse x (faultFrom ss list ((stop - d .after) / descriptorSize) (d .after / descriptorSize))
+        unfolding faultFrom faultAt
+        turn =
+            let k = at / descriptorSize in
+            let here : descriptorSize * k ≡ at = omega (arith, so-far .0) in
+            let left : (stop - at) / descriptorSize ≡ suc ((stop - d .after) / descriptorSize) = omega (arith, so-far .0, next-place list at d read) in
+            let next : d .after / descriptorSize ≡ suc k = omega (arith, so-far .0, next-place list at d read) in
+            so-far .1 ∙ rw (left, next, is, read, here)
+
+        pub judged-fault : (a q : ℕ) → x ≡ Code a q → Code a q ≡ faultIn ss list
+        unfolding orElse
+        judged-fault a q e = sym (turn ∙ rw e)
+
+        pub judged-more : x ≡ None → Judged stop (d .after)
+        unfolding orElse
+        judged-more e = (omega (arith, so-far .0, next-place list at d read), turn ∙ rw e)
+
+      pub judged-end : stop ≤ at → None ≡ faultIn ss list
       unfolding faultFrom
-      turn = let e : n - k ≡ suc (n - (k + 1)) = omega arith in so-far .1 ∙ rw (e, is, add-one k)
+      judged-end h = let e : (stop - at) / descriptorSize ≡ 0 = omega arith in sym (so-far .1 ∙ rw e)
 
-      pub judged-fault : (a q : ℕ) → x ≡ Code a q → Code a q ≡ faultIn ss list
-      unfolding orElse
-      judged-fault a q e = sym (turn ∙ rw e)
+-- ---- what the k-th descriptor names and its fault, in the rules' words
 
-      pub judged-more : x ≡ None → Judged n (k + 1)
-      unfolding orElse
-      judged-more e = (omega arith, turn ∙ rw e)
+module _ (ss : List Slot) (list : List ℕ) where
+  pub span-names : (k : ℕ) → spanAt ss list k ≡ record { first = first ss list k; end = first ss list k + many ss list k }
+  unfolding spanAt spanOf first many
+  span-names k = rw (the-kth list k)
 
-    pub judged-end : n ≤ k → None ≡ faultIn ss list
-    unfolding faultFrom
-    judged-end h = let e : n - k ≡ 0 = omega arith in sym (so-far .1 ∙ rw e)
+  -- s is the span of the descriptor d, which was read at a place
+  pub span-at : (at : ℕ) (d : Step) (s : Span) → at % descriptorSize ≡ 0 → d ≡ stepAt list at → s ≡ spanOf ss d → s ≡ spanAt ss list (at / descriptorSize)
+  unfolding spanAt
+  span-at at d s whole read is = let here : descriptorSize * (at / descriptorSize) ≡ at = omega arith in is ∙ rw (here, read)
+
+  fault-rules : (k : ℕ)
+      → faultAt ss list k ≡ faultBy (differ (reservedBytes list k) 0) (leb (length ss) (first ss list k)) (tooMany ss list k) (namedBefore ss list k)
+  unfolding faultAt faultOf spanAt spanOf stepAt reservedBytes number address first many tooMany namedBefore meetsBefore meet meets
+  fault-rules k = let e : descriptorSize * k / descriptorSize ≡ k = omega arith in rw e
 
 -- ---- where there is no fault, the elements named are in the table
 
 module _ (ss : List Slot) (list : List ℕ) where
   inside-at : (k : ℕ) → None ≡ faultAt ss list k → spanAt ss list k .end ≤ length ss
-  unfolding faultAt spanAt tooMany when
+  unfolding tooMany when
   inside-at k e =
-      go (differ (reservedBytes list k) 0) (leb (length ss) (first ss list k)) (ltb (length ss) (first ss list k + many ss list k)) (namedBefore ss list k) refl e
+      rw (span-names ss list k)
+      (go (differ (reservedBytes list k) 0) (leb (length ss) (first ss list k)) (ltb (length ss) (first ss list k + many ss list k)) (namedBefore ss list k) refl
+      (e ∙ fault-rules ss list k))
     where
       go : (a b c d : Bool) → ltb (length ss) (first ss list k + many ss list k) ≡ c
           → None ≡ faultBy a b c d → first ss list k + many ss list k ≤ length ss
@@ -188,10 +202,10 @@ module _ (head list : List ℕ) (h : ℕ) (rest : Verdict) where
   ss = roster head
 
   told-from : (n k : ℕ) → told h rest (faultFrom ss list n k) ≡ faultsFrom ss h list n k rest
-  unfolding faultFrom faultsFrom told faultAt wrongAddress when anyOf orElse
+  unfolding faultFrom faultsFrom told wrongAddress when anyOf orElse
   told-from zero k = refl
   told-from (suc n) k =
-      rw (unknown-is head list k)
+      rw (fault-rules ss list k, unknown-is head list k)
       (go (differ (reservedBytes list k) 0) (leb (length ss) (first ss list k)) (tooMany ss list k) (namedBefore ss list k) (told-from n (suc k)))
     where
       go : (a b c d : Bool) → told h rest (faultFrom ss list n (suc k)) ≡ faultsFrom ss h list n (suc k) rest

@@ -1,10 +1,11 @@
 -- Looking for a number at which a test holds, one after the other, and tests handed on as they are. Assumes nothing.
-use Prim.Native.Nat.{ℕ, _+_, _<_, _≤_}
+use Prim.Native.Nat.{ℕ, _+_, _/_, _<_, _≤_}
 use native.Mathlib.Omega.{arith}
 use mathlib.Core.Path.{_≡_, refl, sym}
 use mathlib.Core.Bool.{Bool, true, false}
 use mathlib.Core.List.{[], _∷_}
 use Rattle.rules.specs.Choice.{when, anyOf, allOf, anyFrom}
+use Rattle.rules.specs.Holds.{descriptorSize}
 use Rattle.rules.proofs.Ladder.{either, any-here, any-of-none}
 
 -- ---- a loop over the numbers from i on has come to p, and the test has failed so far
@@ -24,6 +25,11 @@ module _ (f : ℕ → Bool) (i : ℕ) where
 
   pub found-nowhere : (n p : ℕ) → Passed f i p → i + n ≤ p → false ≡ anyFrom f n i
   found-nowhere n p s h = sym (any-of-none f n i (λ q k m. s q k (omega arith)))
+
+-- the same over the list's descriptors, where the loop goes from place to place
+pub passed-next : (f : ℕ → Bool) (at after : ℕ) → Passed f 0 (at / descriptorSize) → f (at / descriptorSize) ≡ false → after ≡ at + descriptorSize
+    → Passed f 0 (after / descriptorSize)
+passed-next f at after s e d = let k : after / descriptorSize ≡ at / descriptorSize + 1 = omega arith in rw k (passed-more f 0 (at / descriptorSize) s e)
 
 -- ---- a test as a choice, for `search`
 

@@ -1,29 +1,35 @@
 -- RESERVE's list as the code reads it: what a descriptor names, and its fault. Assumes nothing.
-use Prim.Native.Nat.{ℕ, zero, suc, _+_, _≤_, _<_}
+use Prim.Native.Nat.{ℕ, zero, suc, _+_, _-_, _*_, _/_, _≤_, _<_}
 use mathlib.Core.List.{List, [], _∷_}
 use mathlib.Core.Bool.{Bool}
 use lib.ListN.{length}
-use lib.Dec.{ltb, leb}
+use lib.Dec.{eqb, ltb, leb}
 use Rattle.rules.specs.Choice.{when, allOf, differ, anyFrom}
-use Rattle.rules.specs.Roster.{Slot}
+use Rattle.rules.specs.Roster.{Slot, placeOf}
 use Rattle.rules.specs.Order.{Verdict, check}
-use Rattle.rules.specs.Holds.{descriptors, reservedBytes, number, address, first, many, tooMany, namedBefore}
-use Rattle.lists.specs.declared.Descriptor.{Descriptor}
+use Rattle.rules.specs.Holds.{descriptorSize, descriptors}
+use Rattle.reader.specs.declared.Step.{Step}
+use Rattle.reader.specs.Read.{stepAt}
 use Rattle.lists.specs.declared.Span.{Span}
 use Rattle.lists.specs.declared.Fault.{Fault}
 use Rattle.lists.specs.declared.Fault.the-variants.{Code, None}
 
-unfoldable pub described : List ℕ → ℕ → Descriptor
-described list k = record { reserved = reservedBytes list k; number = number list k; address = address list k }
+-- the elements that a descriptor names
+unfoldable pub spanOf : List Slot → Step → Span
+spanOf ss d =
+    let p = placeOf ss (d .address) in
+    record { first = p; end = p + when (eqb (d .number) 0) (length ss - p) (d .number) }
 
+-- those that the k-th names, from 0
 unfoldable pub spanAt : List Slot → List ℕ → ℕ → Span
-spanAt ss list k = record { first = first ss list k; end = first ss list k + many ss list k }
+spanAt ss list k = spanOf ss (stepAt list (descriptorSize * k))
 
 unfoldable pub meets : Span → Span → Bool
 meets a b = allOf (ltb (b .first) (a .end) ∷ ltb (a .first) (b .end) ∷ [])
 
+-- one of the descriptors before the place
 unfoldable pub meetsBefore : List Slot → List ℕ → ℕ → Span → Bool
-meetsBefore ss list k s = anyFrom (λ j. meets s (spanAt ss list j)) k 0
+meetsBefore ss list at s = anyFrom (λ k. meets s (spanAt ss list k)) (at / descriptorSize) 0
 
 -- "wrong address 5/21/01"
 abbrev pub wrong : Fault
@@ -33,9 +39,13 @@ wrong = Code 0x21 0x01
 abbrev pub faultBy : Bool → Bool → Bool → Bool → Fault
 faultBy a b c d = when a (Code 0x26 0x00) (when b wrong (when c wrong (when d wrong None)))
 
+-- of the descriptor d at a place
+unfoldable pub faultOf : List Slot → List ℕ → ℕ → Step → Fault
+faultOf ss list at d =
+    faultBy (differ (d .reserved) 0) (leb (length ss) (spanOf ss d .first)) (ltb (length ss) (spanOf ss d .end)) (meetsBefore ss list at (spanOf ss d))
+
 unfoldable pub faultAt : List Slot → List ℕ → ℕ → Fault
-faultAt ss list k =
-    faultBy (differ (reservedBytes list k) 0) (leb (length ss) (first ss list k)) (tooMany ss list k) (namedBefore ss list k)
+faultAt ss list k = faultOf ss list (descriptorSize * k) (stepAt list (descriptorSize * k))
 
 -- the first fault, where there is one
 unfoldable pub orElse : Fault → Fault → Fault

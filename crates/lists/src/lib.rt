@@ -1,26 +1,19 @@
 // RESERVE's parameter list: what its descriptors name, and the first fault in it.
+use reader::SIZE;
+use reader::Step;
 use tables::Found;
 use tables::Range;
 ghost use mathlib.Core.Path.{_≡_};
-ghost use Prim.Native.Nat.{_+_, _-_, _*_, _<_, _≤_};
+ghost use Prim.Native.Nat.{_+_, _-_, _*_, _%_, _<_, _≤_};
 ghost use lib.ListN.{length};
 ghost use lib.Dec.{eqb};
 ghost use Rattle.rules.specs.Choice.{when};
 ghost use Rattle.rules.specs.Roster.{placeOf};
 ghost use Rattle.rules.specs.Holds.{descriptorSize, descriptors, wrongListLength};
 ghost use Rattle.tables.specs.Ranges.{rosterOf};
-ghost use Rattle.lists.specs.Named.{described, spanAt, meets, meetsBefore, faultAt, faultIn};
-
-const SIZE: usize = 6;
+ghost use Rattle.lists.specs.Named.{spanOf, meets, meetsBefore, faultOf, faultIn};
 
 const MOST: usize = 32;
-
-// "two zero bytes, number n, address"
-pub struct Descriptor {
-    pub reserved: u16,
-    pub number: u16,
-    pub address: u16,
-}
 
 // The elements that a descriptor names: the first place, and the one behind the last.
 pub struct Span {
@@ -34,11 +27,11 @@ pub enum Fault {
     None,
 }
 
-// How many descriptors the list holds.
-pub fn count(list: &[u8]) -> usize
-    ensures { λ r. ⌜ r ≡ descriptors (now (list .entry)) ⌝ }
+// The place behind the last descriptor.
+pub fn stop(list: &[u8]) -> usize
+    ensures { λ r. ⌜ r ≡ descriptorSize * descriptors (now (list .entry)) ⌝ }
 {
-    list.len() / SIZE
+    SIZE * (list.len() / SIZE)
 }
 
 // "1 to 32 descriptors of 6 bytes"
@@ -53,19 +46,6 @@ pub fn wrong_length(list: &[u8]) -> bool
         return true;
     }
     n % SIZE != 0
-}
-
-// The k-th descriptor of the list, from 0.
-fn descriptor_at(list: &[u8], k: usize) -> Descriptor
-    requires { ⌜ descriptorSize * k + descriptorSize ≤ length (now list) ⌝ }
-    ensures { λ r. ⌜ r ≡ described (now (list .entry)) k ⌝ }
-{
-    let at = SIZE * k;
-    Descriptor {
-        reserved: wire::word_at(list, at),
-        number: wire::word_at(list, at + 2),
-        address: wire::word_at(list, at + 4),
-    }
 }
 
 // "n elements in table order .. 0 meaning through the last": the place behind the last of them.
@@ -90,12 +70,10 @@ fn place_of(rs: [Range; 4], address: u16) -> usize
     p
 }
 
-// The elements that the k-th descriptor names.
-pub fn span_at(rs: [Range; 4], list: &[u8], k: usize) -> Span
-    requires { ⌜ descriptorSize * k + descriptorSize ≤ length (now list) ⌝ }
-    ensures { λ r. ⌜ r ≡ spanAt (rosterOf rs) (now (list .entry)) k ⌝ }
+// The elements that a descriptor names.
+pub fn span_of(rs: [Range; 4], d: Step) -> Span
+    ensures { λ r. ⌜ r ≡ spanOf (rosterOf rs) d ⌝ }
 {
-    let d = descriptor_at(list, k);
     let total = tables::total(rs);
     let first = place_of(rs, d.address);
     Span {
@@ -114,27 +92,29 @@ fn meet(a: Span, b: Span) -> bool
     false
 }
 
-// Whether one of the first k descriptors names an element of the span.
-fn named_before(rs: [Range; 4], list: &[u8], k: usize, s: Span) -> bool
-    requires { ⌜ descriptorSize * k ≤ length (now list) ⌝ }
-    ensures { λ r. ⌜ r ≡ meetsBefore (rosterOf rs) (now (list .entry)) k s ⌝ }
+// Whether a descriptor before the place names an element of the span.
+fn named_before(rs: [Range; 4], list: &[u8], at: usize, s: Span) -> bool
+    requires { ⌜ at % descriptorSize ≡ 0 ⌝ }
+    requires { ⌜ at ≤ length (now list) ⌝ }
+    ensures { λ r. ⌜ r ≡ meetsBefore (rosterOf rs) (now (list .entry)) at s ⌝ }
 {
-    let mut j: usize = 0;
-    while j < k {
-        if meet(s, span_at(rs, list, j)) {
+    let mut before: usize = 0;
+    while before < at {
+        let d = reader::read_at(list, before);
+        if meet(s, span_of(rs, d)) {
             return true;
         }
-        j += 1;
+        before = d.after;
     }
     false
 }
 
-// "reserved bytes before the address .. an unknown address or too many is 5/21/01"
-fn fault_at(rs: [Range; 4], list: &[u8], k: usize) -> Fault
-    requires { ⌜ descriptorSize * k + descriptorSize ≤ length (now list) ⌝ }
-    ensures { λ r. ⌜ r ≡ faultAt (rosterOf rs) (now (list .entry)) k ⌝ }
+// "reserved bytes before the address .. an unknown address or too many is 5/21/01": of the descriptor d at a place.
+fn fault_of(rs: [Range; 4], list: &[u8], at: usize, d: Step) -> Fault
+    requires { ⌜ at % descriptorSize ≡ 0 ⌝ }
+    requires { ⌜ at ≤ length (now list) ⌝ }
+    ensures { λ r. ⌜ r ≡ faultOf (rosterOf rs) (now (list .entry)) at d ⌝ }
 {
-    let d = descriptor_at(list, k);
     if d.reserved != 0 {
         return Fault::Code(0x26, 0x00);
     }
@@ -146,7 +126,7 @@ fn fault_at(rs: [Range; 4], list: &[u8], k: usize) -> Fault
     if total < end {
         return Fault::Code(0x21, 0x01);
     }
-    if named_before(rs, list, k, Span { first, end }) {
+    if named_before(rs, list, at, Span { first, end }) {
         return Fault::Code(0x21, 0x01);
     }
     Fault::None
@@ -156,13 +136,14 @@ fn fault_at(rs: [Range; 4], list: &[u8], k: usize) -> Fault
 pub fn first_fault(rs: [Range; 4], list: &[u8]) -> Fault
     ensures { λ r. ⌜ r ≡ faultIn (rosterOf rs) (now (list .entry)) ⌝ }
 {
-    let n = count(list);
-    let mut k: usize = 0;
-    while k < n {
-        if let Fault::Code(asc, ascq) = fault_at(rs, list, k) {
+    let stop = stop(list);
+    let mut at: usize = 0;
+    while at < stop {
+        let d = reader::read_at(list, at);
+        if let Fault::Code(asc, ascq) = fault_of(rs, list, at, d) {
             return Fault::Code(asc, ascq);
         }
-        k += 1;
+        at = d.after;
     }
     Fault::None
 }

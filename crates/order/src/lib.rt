@@ -75,7 +75,7 @@ pub fn good(head: &mut [u8], host: u8) -> Reply
     requires { ⌜ host ≤ hosts ⌝ }
     ensures { λ r. ⌜ ((elements tags blank buffer : List ℕ) → ended r (now (head .exit)) elements buffer ≡ outcome (lent (now (head .entry)) elements tags blank) buffer (goodVerdict host [])) ⌝ }
 {
-    tables::head::note(head, host, 0, 0, 0);
+    tables::head::wipe(head, host);
     told(0x00, 0)
 }
 
@@ -95,6 +95,6 @@ pub fn conflict(head: &mut [u8], host: u8) -> Reply
     requires { ⌜ host ≤ hosts ⌝ }
     ensures { λ r. ⌜ ((elements tags blank buffer : List ℕ) → ended r (now (head .exit)) elements buffer ≡ outcome (lent (now (head .entry)) elements tags blank) buffer (conflictVerdict host)) ⌝ }
 {
-    tables::head::note(head, host, 0, 0, 0);
+    tables::head::wipe(head, host);
     told(0x18, 0)
 }

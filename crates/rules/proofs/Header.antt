@@ -1,6 +1,6 @@
 -- "Counts are never cut to the allocation": whatever the allocation, the header tells of all elements chosen and of all their pages, and what is
 -- returned is the beginning of the whole answer, up to the end of a descriptor. Assumes nothing.
-use Prim.Native.Nat.{ℕ, zero, suc, _+_, _*_, _-_, _≤_, _<_}
+use Prim.Native.Nat.{ℕ, zero, suc, _+_, _-_, _≤_, _<_}
 use native.Mathlib.Omega.{arith}
 use mathlib.Core.Path.{_≡_, refl, sym, ap, _∙_}
 use mathlib.Core.Logic.{_⊎_, inl, inr}
@@ -9,7 +9,7 @@ use mathlib.Core.Bool.{Bool, true, false}
 use lib.ListN.{length, take, length-append, length-map}
 use lib.Seq.{take-append-add, take-append-le, length-take-le, take-take}
 use lib.Dec.{leb, ltb, T}
-use borrow.Author.Tests.{leb-true, leb-false, ltb-true, ltb-false, le-leb, lt-ltb, le-ltb}
+use borrow.Author.Tests.{leb-true, ltb-true, ltb-false, le-leb, lt-ltb, le-ltb}
 use Rattle.rules.specs.Choice.{when, anyOf}
 use Rattle.rules.specs.Bytes.{byte, word, triple, three}
 use Rattle.rules.specs.Tables.{Tables}

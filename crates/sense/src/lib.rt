@@ -126,7 +126,7 @@ fn tell_sense(head: &mut [u8], host: u8, answer: &mut [u8], count: usize) -> Rep
     let asc = tables::head::asc(head, host);
     let ascq = tables::head::ascq(head, host);
     tell(answer, count, key, asc, ascq);
-    tables::head::note(head, host, 0, 0, 0);
+    tables::head::wipe(head, host);
     order::told(0x00, count as u32)
 }
 

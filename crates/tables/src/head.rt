@@ -95,13 +95,22 @@ pub fn set_mask(head: &mut [u8], mask: u8)
     head[MASK] = mask;
 }
 
-// The host's sense; zeros clear it.
+// The host's sense, in its record where it stands.
 pub fn note(head: &mut [u8], host: u8, key: u8, asc: u8, ascq: u8)
     requires { ⌜ headSize ≤ length (now head) ⌝ }
     requires { ⌜ host ≤ hosts ⌝ }
     ensures { λ _. ⌜ now (head .exit) ≡ sensed (now (head .entry)) host key asc ascq ⌝ }
 {
-    wire::put_three(head, host_at(host), key, asc, ascq);
+    record::note(head, host_at(host), key, asc, ascq);
+}
+
+// The host has no sense.
+pub fn wipe(head: &mut [u8], host: u8)
+    requires { ⌜ headSize ≤ length (now head) ⌝ }
+    requires { ⌜ host ≤ hosts ⌝ }
+    ensures { λ _. ⌜ now (head .exit) ≡ sensed (now (head .entry)) host 0 0 0 ⌝ }
+{
+    record::wipe(head, host_at(host));
 }
 
 // The host's attention; zeros clear it.

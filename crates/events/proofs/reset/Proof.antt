@@ -9,8 +9,8 @@ use Rattle.events.proofs.reset.Tie as tie
 hold-unit-requires : tie.Need-hold-unit-requires
 hold-unit-requires c κs = head-length _ (c .before .before .before .before .before .pre)
 
-free-all-requires : tie.Need-free-all-requires
-free-all-requires c κs = search needs
+free-requires : tie.Need-free-requires
+free-requires c κs = search needs
 
 set-mask-requires : tie.Need-set-mask-requires
 set-mask-requires c κs = omega (arith, head-length _ (c .before .before .before .before .before .before .before .before .before .before .before .before .before .pre))
@@ -34,14 +34,14 @@ returns c =
     let freed = allowed .before .before .before .before in
     let unheld = freed .before .before .before .before in
     let began = unheld .before .before .before .before .before .before in
-    reset-ends _ _ _ _ _ (unheld .hold-unit .ensures) (freed .free-all .ensures) (allowed .set-mask .ensures) (restarted .restart .ensures) (began .pre) _ (c .told .ensures)
+    reset-ends _ _ _ _ _ (unheld .hold-unit .ensures) (freed .free .ensures) (allowed .set-mask .ensures) (restarted .restart .ensures) (began .pre) _ (c .told .ensures)
 
 pub reset-spec : {M : Type 1} → statement M
 reset-spec =
     tie.close
     (tie.spec
     hold-unit-requires
-    free-all-requires
+    free-requires
     set-mask-requires
     restart-requires
     told-requires

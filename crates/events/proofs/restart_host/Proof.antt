@@ -7,8 +7,8 @@ use borrow.Author.Needs.{needs}
 use Rattle.events.proofs.restart_host.Statement.{statement}
 use Rattle.events.proofs.restart_host.Tie as tie
 
-note-requires : tie.Need-note-requires
-note-requires c κs = search needs
+wipe-requires : tie.Need-wipe-requires
+wipe-requires c κs = search needs
 
 attend-requires : tie.Need-attend-requires
 attend-requires c κs = search needs
@@ -18,7 +18,7 @@ same-length c = search needs
 
 returns : tie.Need-returns
 unfolding restartedAt restartedFrom changes change inHead
-returns c = c .before .before .attend .ensures ∙ rw (c .before .before .before .before .before .before .note .ensures)
+returns c = c .before .before .attend .ensures ∙ rw (c .before .before .before .before .before .before .wipe .ensures)
 
 pub restart-host-spec : {M : Type 1} → statement M
-restart-host-spec = tie.close (tie.spec note-requires attend-requires same-length returns)
+restart-host-spec = tie.close (tie.spec wipe-requires attend-requires same-length returns)

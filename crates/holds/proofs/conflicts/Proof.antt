@@ -1,46 +1,55 @@
 -- `holds::conflicts` meets its contract. Assumes nothing.
-use Prim.Native.Nat.{_≤_, _-_}
+use Prim.Native.Nat.{_≤_, _-_, _/_, _%_}
 use native.Mathlib.Omega.{arith}
 use mathlib.Core.Path.{_≡_, refl, sym, _∙_}
 use mathlib.Core.Bool.{false}
 use borrow.Author.Needs.{needs}
-use Rattle.rules.specs.Holds.{descriptors, taken, takes, conflicts}
+use Rattle.rules.specs.Holds.{descriptorSize, descriptors, taken, takes, conflicts}
 use Rattle.tables.specs.Ranges.{rosterOf}
-use Rattle.lists.proofs.Searches.{Passed, passed-none, passed-more, found-there, found-nowhere}
+use Rattle.reader.proofs.Places.{next-place}
+use Rattle.lists.proofs.Searches.{Passed, passed-none, passed-more, passed-next, found-there, found-nowhere}
+use Rattle.lists.proofs.Faults.{span-at}
 use Rattle.holds.proofs.Loops.{span-inside, takes-one, takes-none}
 use Rattle.holds.proofs.conflicts.Statement.{statement}
 use Rattle.holds.proofs.conflicts.Tie as tie
 
 abbrev Inv-loop : tie.InvT-loop
-Inv-loop rs elements host id list n bad₀ k end p₀ bad p = (p₀ ≤ p) × (bad ≡ false) × Passed (taken elements host id) p₀ p
+Inv-loop rs elements host id list stop bad₀ at d end p₀ bad p = (p₀ ≤ p) × (bad ≡ false) × Passed (taken elements host id) p₀ p
 
 abbrev μ-loop : tie.MeasureT-loop
-μ-loop rs elements host id list n bad₀ k end p₀ bad p = end - p
+μ-loop rs elements host id list stop bad₀ at d end p₀ bad p = end - p
 
 abbrev Inv-judged : tie.InvT-judged
-Inv-judged rs elements host id list n bad₀ k₀ bad k = (k ≤ n) × (bad ≡ false) × Passed (takes (rosterOf rs) elements host id list) 0 k
+Inv-judged rs elements host id list stop bad₀ at₀ bad at =
+    (at % descriptorSize ≡ 0) × (bad ≡ false) × Passed (takes (rosterOf rs) elements host id list) 0 (at / descriptorSize)
 
 abbrev μ-judged : tie.MeasureT-judged
-μ-judged rs elements host id list n bad₀ k₀ bad k = n - k
+μ-judged rs elements host id list stop bad₀ at₀ bad at = stop - at
 
-count-requires : tie.Need-count-requires Inv-loop μ-loop Inv-judged μ-judged
-count-requires c κs = search needs
+stop-requires : tie.Need-stop-requires Inv-loop μ-loop Inv-judged μ-judged
+stop-requires c κs = search needs
 
 judged-holds : tie.Need-judged-holds Inv-loop μ-loop Inv-judged μ-judged
-judged-holds c = (search needs, refl, passed-none _ 0)
+judged-holds c = (refl, refl, passed-none _ 0)
 
-span-at-requires : tie.Need-span-at-requires Inv-loop μ-loop Inv-judged μ-judged
+read-at-requires : tie.Need-read-at-requires Inv-loop μ-loop Inv-judged μ-judged
 unfolding descriptors
-span-at-requires c κs = omega (arith, c .before .before .count .ensures)
+read-at-requires c κs = omega (arith, c .before .before .stop .ensures)
+
+span-of-requires : tie.Need-span-of-requires Inv-loop μ-loop Inv-judged μ-judged
+span-of-requires c κs = search needs
 
 loop-holds : tie.Need-loop-holds Inv-loop μ-loop Inv-judged μ-judged
-loop-holds c = (search needs, c .before .before .judged .inv .1, passed-none _ _)
+loop-holds c = (search needs, c .before .before .before .judged .inv .1, passed-none _ _)
 
 taken-at-requires : tie.Need-taken-at-requires Inv-loop μ-loop Inv-judged μ-judged
 taken-at-requires c κs =
     let s = c .before .before in
-    let n = s .before .before .before in
-    omega (arith, n .count .ensures, span-inside _ _ _ _ (s .span-at .ensures) (n .before .before .before .pre .1) (omega (arith, n .count .ensures)))
+    let d = s .before in
+    let j = d .before .before in
+    let n = j .before in
+    let e = span-at _ _ _ _ _ (j .judged .inv .0) (d .read-at .ensures) (s .span-of .ensures) in
+    omega (arith, n .stop .ensures, span-inside _ _ _ _ e (n .before .before .before .pre .1) (omega (arith, n .stop .ensures)))
 
 add-p : tie.Need-add-p Inv-loop μ-loop Inv-judged μ-judged
 add-p c = search needs
@@ -53,31 +62,35 @@ loop-again c =
     let l = c .before .before .before .loop .inv in
     (search needs, l .1, passed-more _ _ _ (l .2) (sym (c .before .taken-at .ensures) ∙ c .if1 .left))
 
-add-k : tie.Need-add-k Inv-loop μ-loop Inv-judged μ-judged
-add-k c = search needs
-
 judged-less : tie.Need-judged-less Inv-loop μ-loop Inv-judged μ-judged
-judged-less c = search needs
+judged-less c = omega (arith, next-place _ _ _ (c .before .before .before .read-at .ensures))
 
 judged-again : tie.Need-judged-again Inv-loop μ-loop Inv-judged μ-judged
 judged-again c =
     let l = c .before .loop .inv in
     let s = c .before .before in
-    (search needs, l .1, passed-more _ 0 _ (s .before .before .judged .inv .2) (takes-none _ _ _ _ (s .span-at .ensures) _ _ _ _ (l .2) (c .loop-test .left)))
+    let d = s .before in
+    let j = d .before .before .judged .inv in
+    let a = next-place _ _ _ (d .read-at .ensures) in
+    let e = span-at _ _ _ _ _ (j .0) (d .read-at .ensures) (s .span-of .ensures) in
+    (omega (arith, j .0), l .1, passed-next _ _ _ (j .2) (takes-none _ _ _ _ e _ _ _ _ (l .2) (c .loop-test .left)) a)
 
 returns : tie.Need-returns Inv-loop μ-loop Inv-judged μ-judged
 unfolding conflicts
 returns c =
     let j = c .before .judged .inv in
-    j .1 ∙ found-nowhere _ 0 _ _ (j .2) (omega (arith, c .before .before .count .ensures))
+    j .1 ∙ found-nowhere _ 0 _ _ (j .2) (omega (arith, c .before .before .stop .ensures))
 
 returns-2 : tie.Need-returns-2 Inv-loop μ-loop Inv-judged μ-judged
 unfolding conflicts
 returns-2 c =
     let t = c .before in
     let s = t .before .before .before in
-    found-there _ 0 _ _ (search needs) (omega (arith, s .before .before .before .count .ensures))
-    (takes-one _ _ _ _ (s .span-at .ensures) _ _ _ _ (t .before .before .loop .inv .0) (t .before .loop-test .taken) (sym (t .taken-at .ensures) ∙ c .if1 .taken))
+    let d = s .before in
+    let j = d .before .before in
+    let e = span-at _ _ _ _ _ (j .judged .inv .0) (d .read-at .ensures) (s .span-of .ensures) in
+    found-there _ 0 _ _ (omega arith) (omega (arith, j .before .stop .ensures))
+    (takes-one _ _ _ _ e _ _ _ _ (t .before .before .loop .inv .0) (t .before .loop-test .taken) (sym (t .taken-at .ensures) ∙ c .if1 .taken))
 
 pub conflicts-spec : {M : Type 1} → statement M
 conflicts-spec =
@@ -87,15 +100,15 @@ conflicts-spec =
     μ-loop
     Inv-judged
     μ-judged
-    count-requires
+    stop-requires
     judged-holds
-    span-at-requires
+    read-at-requires
+    span-of-requires
     loop-holds
     taken-at-requires
     add-p
     loop-less
     loop-again
-    add-k
     judged-less
     judged-again
     returns

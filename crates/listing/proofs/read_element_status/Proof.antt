@@ -75,8 +75,8 @@ same-length-3 c = search needs
 returns-2 : tie.Need-returns-2
 returns-2 c = ends-refused _ _ _ _ _ _ (sym (c .before .before .before .before .before .before .before .before .before .before .before .before .before .malformed .ensures) ∙ c .before .before .before .before .before .before .before .before .before .before .before .before .if1 .left) (answered (c .before .before .before)) (c .if2 .taken)
 
-note-requires : tie.Need-note-requires
-note-requires c κs = (long (c .before .before .before .before .before .before .before .before .before .before .before .before .before .before .before .before .before .before .before .before .before), c .before .before .before .before .before .before .before .before .before .before .before .before .before .before .before .before .before .before .before .before .before .pre .1 .0 .1)
+wipe-requires : tie.Need-wipe-requires
+wipe-requires c κs = (long (c .before .before .before .before .before .before .before .before .before .before .before .before .before .before .before .before .before .before .before .before .before), omega (arith, c .before .before .before .before .before .before .before .before .before .before .before .before .before .before .before .before .before .before .before .before .before .pre .1 .0 .1))
 
 same-length-4 : tie.Need-same-length-4
 same-length-4 c = search needs
@@ -85,7 +85,7 @@ same-length-5 : tie.Need-same-length-5
 same-length-5 c = search needs
 
 returns-3 : tie.Need-returns-3
-returns-3 c = ends-good _ _ _ _ _ _ (sym (c .before .before .before .before .before .before .before .before .before .before .before .before .before .before .before .before .before .malformed .ensures) ∙ c .before .before .before .before .before .before .before .before .before .before .before .before .before .before .before .before .if1 .left) (answered (c .before .before .before .before .before .before .before)) _ (c .before .before .before .before .if2 .left) (c .before .before .note .ensures)
+returns-3 c = ends-good _ _ _ _ _ _ (sym (c .before .before .before .before .before .before .before .before .before .before .before .before .before .before .before .before .before .malformed .ensures) ∙ c .before .before .before .before .before .before .before .before .before .before .before .before .before .before .before .before .if1 .left) (answered (c .before .before .before .before .before .before .before)) _ (c .before .before .before .before .if2 .left) (c .before .before .wipe .ensures)
 
 pub read-element-status-spec : {M : Type 1} → statement M
 read-element-status-spec =
@@ -106,7 +106,7 @@ read-element-status-spec =
     same-length-2
     same-length-3
     returns-2
-    note-requires
+    wipe-requires
     same-length-4
     same-length-5
     returns-3)

@@ -4,25 +4,30 @@ use native.Mathlib.Omega.{arith}
 use borrow.Author.Needs.{needs}
 use Rattle.rules.specs.Holds.{descriptors}
 use Rattle.tables.specs.Ranges.{rosterOf}
+use Rattle.reader.proofs.Places.{next-place}
 use Rattle.lists.proofs.Faults.{Judged, judged-start, judged-fault, judged-more, judged-end}
 use Rattle.lists.proofs.first_fault.Statement.{statement}
 use Rattle.lists.proofs.first_fault.Tie as tie
 
 abbrev Inv-loop : tie.InvT-loop
-Inv-loop rs list n k₀ k = Judged (rosterOf rs) list n k
+Inv-loop rs list stop at₀ at = Judged (rosterOf rs) list stop at
 
 abbrev μ-loop : tie.MeasureT-loop
-μ-loop rs list n k₀ k = n - k
+μ-loop rs list stop at₀ at = stop - at
 
-count-requires : tie.Need-count-requires Inv-loop μ-loop
-count-requires c κs = search needs
+stop-requires : tie.Need-stop-requires Inv-loop μ-loop
+stop-requires c κs = search needs
 
 loop-holds : tie.Need-loop-holds Inv-loop μ-loop
-loop-holds c = judged-start _ _ _ (c .count .ensures)
+loop-holds c = judged-start _ _ _ (c .stop .ensures)
 
-fault-at-requires : tie.Need-fault-at-requires Inv-loop μ-loop
+read-at-requires : tie.Need-read-at-requires Inv-loop μ-loop
 unfolding descriptors
-fault-at-requires c κs = omega (arith, c .before .before .count .ensures)
+read-at-requires c κs = omega (arith, c .before .before .stop .ensures)
+
+fault-of-requires : tie.Need-fault-of-requires Inv-loop μ-loop
+unfolding descriptors
+fault-of-requires c κs = (search needs, omega (arith, c .before .before .before .stop .ensures))
 
 enum-known-asc : tie.Need-enum-known-asc Inv-loop μ-loop
 enum-known-asc c = search needs
@@ -30,25 +35,27 @@ enum-known-asc c = search needs
 returns : tie.Need-returns Inv-loop μ-loop
 returns c =
     let f = c .before .before .before in
-    judged-fault _ _ _ _ (f .before .before .loop .inv) (f .before .loop-test .taken) _ (f .fault-at .ensures) _ _ (c .before .asc .given .1)
+    let d = f .before in
+    let t = d .before in
+    judged-fault _ _ _ (t .before .before .stop .ensures) _ (t .before .loop .inv) (t .loop-test .taken) _ (d .read-at .ensures) _ (f .fault-of .ensures) _ _ (c .before .asc .given .1)
 
 enum-told : tie.Need-enum-told Inv-loop μ-loop
 enum-told c = search needs
 
-add-k : tie.Need-add-k Inv-loop μ-loop
-add-k c = search needs
-
 loop-less : tie.Need-loop-less Inv-loop μ-loop
-loop-less c = search needs
+loop-less c = omega (arith, next-place _ _ _ (c .before .before .before .read-at .ensures))
 
 loop-again : tie.Need-loop-again Inv-loop μ-loop
 loop-again c =
     let f = c .before .before in
-    judged-more _ _ _ _ (f .before .before .loop .inv) (f .before .loop-test .taken) _ (f .fault-at .ensures) (c .enum-told .given .1)
+    let d = f .before in
+    let t = d .before in
+    judged-more _ _ _ (t .before .before .stop .ensures) _ (t .before .loop .inv) (t .loop-test .taken) _ (d .read-at .ensures) _ (f .fault-of .ensures) (c .enum-told .given .1)
 
 returns-2 : tie.Need-returns-2 Inv-loop μ-loop
-returns-2 c = judged-end _ _ _ _ (c .before .loop .inv) (c .loop-test .left)
+returns-2 c = judged-end _ _ _ (c .before .before .stop .ensures) _ (c .before .loop .inv) (c .loop-test .left)
 
 pub first-fault-spec : {M : Type 1} → statement M
 first-fault-spec =
-    tie.close (tie.spec Inv-loop μ-loop count-requires loop-holds fault-at-requires enum-known-asc returns enum-told add-k loop-less loop-again returns-2)
+    tie.close
+    (tie.spec Inv-loop μ-loop stop-requires loop-holds read-at-requires fault-of-requires enum-known-asc returns enum-told loop-less loop-again returns-2)

@@ -1,24 +1,32 @@
 -- `lists::named_before` meets its contract. Assumes nothing.
-use Prim.Native.Nat.{_≤_, _-_}
-use mathlib.Core.Path.{sym, ap, _∙_}
+use Prim.Native.Nat.{_-_, _/_, _%_}
+use native.Mathlib.Omega.{arith}
+use mathlib.Core.Path.{_≡_, refl, sym, ap, _∙_}
 use borrow.Author.Needs.{needs}
+use Rattle.rules.specs.Holds.{descriptorSize}
 use Rattle.tables.specs.Ranges.{rosterOf}
+use Rattle.reader.proofs.Places.{next-place}
 use Rattle.lists.specs.Named.{meets, spanAt, meetsBefore}
-use Rattle.lists.proofs.Searches.{Passed, passed-none, passed-more, found-there, found-nowhere}
+use Rattle.lists.proofs.Searches.{Passed, passed-none, passed-next, found-there, found-nowhere}
+use Rattle.lists.proofs.Faults.{span-at}
 use Rattle.lists.proofs.named_before.Statement.{statement}
 use Rattle.lists.proofs.named_before.Tie as tie
 
 abbrev Inv-loop : tie.InvT-loop
-Inv-loop rs list k s j₀ j = (j ≤ k) × Passed (λ i. meets s (spanAt (rosterOf rs) list i)) 0 j
+Inv-loop rs list at s before₀ before =
+    (before % descriptorSize ≡ 0) × Passed (λ k. meets s (spanAt (rosterOf rs) list k)) 0 (before / descriptorSize)
 
 abbrev μ-loop : tie.MeasureT-loop
-μ-loop rs list k s j₀ j = k - j
+μ-loop rs list at s before₀ before = at - before
 
 loop-holds : tie.Need-loop-holds Inv-loop μ-loop
-loop-holds c = (search needs, passed-none _ 0)
+loop-holds c = (refl, passed-none _ 0)
 
-span-at-requires : tie.Need-span-at-requires Inv-loop μ-loop
-span-at-requires c κs = search needs
+read-at-requires : tie.Need-read-at-requires Inv-loop μ-loop
+read-at-requires c κs = search needs
+
+span-of-requires : tie.Need-span-of-requires Inv-loop μ-loop
+span-of-requires c κs = search needs
 
 meet-requires : tie.Need-meet-requires Inv-loop μ-loop
 meet-requires c κs = search needs
@@ -26,24 +34,28 @@ meet-requires c κs = search needs
 returns : tie.Need-returns Inv-loop μ-loop
 unfolding meetsBefore
 returns c =
-    let b = c .before .before in
-    found-there _ 0 _ _ (search needs) (search needs) (ap (meets _) (sym (b .span-at .ensures)) ∙ sym (c .before .meet .ensures) ∙ c .if1 .taken)
-
-add-j : tie.Need-add-j Inv-loop μ-loop
-add-j c = search needs
+    let m = c .before in
+    let d = m .before .before in
+    let l = d .before .before .loop .inv in
+    let e = span-at _ _ _ _ _ (l .0) (d .read-at .ensures) (m .before .span-of .ensures) in
+    found-there _ 0 _ _ (omega arith) (omega arith) (ap (meets _) (sym e) ∙ sym (m .meet .ensures) ∙ c .if1 .taken)
 
 loop-less : tie.Need-loop-less Inv-loop μ-loop
-loop-less c = search needs
+loop-less c = omega (arith, next-place _ _ _ (c .before .before .before .read-at .ensures))
 
 loop-again : tie.Need-loop-again Inv-loop μ-loop
 loop-again c =
-    let b = c .before .before in
-    (search needs, passed-more _ 0 _ (b .before .before .loop .inv .1) (ap (meets _) (sym (b .span-at .ensures)) ∙ sym (c .before .meet .ensures) ∙ c .if1 .left))
+    let m = c .before in
+    let d = m .before .before in
+    let a = next-place _ _ _ (d .read-at .ensures) in
+    let l = d .before .before .loop .inv in
+    let e = span-at _ _ _ _ _ (l .0) (d .read-at .ensures) (m .before .span-of .ensures) in
+    (omega arith, passed-next _ _ _ (l .1) (ap (meets _) (sym e) ∙ sym (m .meet .ensures) ∙ c .if1 .left) a)
 
 returns-2 : tie.Need-returns-2 Inv-loop μ-loop
 unfolding meetsBefore
-returns-2 c = found-nowhere _ 0 _ _ (c .before .loop .inv .1) (search needs)
+returns-2 c = found-nowhere _ 0 _ _ (c .before .loop .inv .1) (omega arith)
 
 pub named-before-spec : {M : Type 1} → statement M
 named-before-spec =
-    tie.close (tie.spec Inv-loop μ-loop loop-holds span-at-requires meet-requires returns add-j loop-less loop-again returns-2)
+    tie.close (tie.spec Inv-loop μ-loop loop-holds read-at-requires span-of-requires meet-requires returns loop-less loop-again returns-2)

@@ -4,8 +4,8 @@ use borrow.Author.Needs.{needs}
 use Rattle.order.proofs.good.Statement.{statement}
 use Rattle.order.proofs.good.Tie as tie
 
-note-requires : tie.Need-note-requires
-note-requires c κs = search needs
+wipe-requires : tie.Need-wipe-requires
+wipe-requires c κs = search needs
 
 told-requires : tie.Need-told-requires
 told-requires c κs = search needs
@@ -14,7 +14,7 @@ same-length : tie.Need-same-length
 same-length c = search needs
 
 returns : tie.Need-returns
-returns c elements tags blank buffer = good-ends _ _ _ _ (c .before .before .before .note .ensures) elements tags blank buffer (c .told .ensures)
+returns c elements tags blank buffer = good-ends _ _ _ _ (c .before .before .before .wipe .ensures) elements tags blank buffer (c .told .ensures)
 
 pub good-spec : {M : Type 1} → statement M
-good-spec = tie.close (tie.spec note-requires told-requires same-length returns)
+good-spec = tie.close (tie.spec wipe-requires told-requires same-length returns)

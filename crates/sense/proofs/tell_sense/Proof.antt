@@ -19,8 +19,8 @@ ascq-requires c κs = search needs
 tell-requires : tie.Need-tell-requires
 tell-requires c κs = search needs
 
-note-requires : tie.Need-note-requires
-note-requires c κs = search needs
+wipe-requires : tie.Need-wipe-requires
+wipe-requires c κs = search needs
 
 cast-told : tie.Need-cast-told
 cast-told c = search needs
@@ -37,12 +37,12 @@ same-length-2 c = search needs
 returns : tie.Need-returns
 unfolding meaning inHead inElements
 returns c = λ elements tags blank.
-    let noted = c .before .before .before in
-    let told = noted .before .before .before .before in
+    let wiped = c .before .before .before in
+    let told = wiped .before .before .before .before in
     let codes = told .before .before in
     let began = codes .before .before .before .before .before .before .before .before in
     rw (← codes .before .before .before .before .key .ensures, ← codes .before .before .asc .ensures, ← codes .ascq .ensures)
-    (tells _ _ _ _ _ _ _ _ _ (Sense _ 0 0 0) (began .pre .1 .1 .0) (c .told .ensures) (told .tell .ensures) (noted .note .ensures) refl)
+    (tells _ _ _ _ _ _ _ _ _ (Sense _ 0 0 0) (began .pre .1 .1 .0) (c .told .ensures) (told .tell .ensures) (wiped .wipe .ensures) refl)
 
 pub tell-sense-spec : {M : Type 1} → statement M
 tell-sense-spec =
@@ -52,7 +52,7 @@ tell-sense-spec =
     asc-requires
     ascq-requires
     tell-requires
-    note-requires
+    wipe-requires
     cast-told
     told-requires
     same-length

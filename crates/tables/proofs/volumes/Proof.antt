@@ -1,6 +1,5 @@
 -- `tables::volumes` meets its contract. Assumes nothing.
 use mathlib.Core.Path.{refl}
--- `tables::volumes` meets its contract. Assumes nothing.
 use Rattle.rules.specs.Tables.{volumes}
 use Rattle.tables.proofs.volumes.Statement.{statement}
 use Rattle.tables.proofs.volumes.Tie as tie

@@ -1,6 +1,5 @@
 -- `tables::element::places` meets its contract. Assumes nothing.
 use mathlib.Core.Path.{refl}
--- `tables::element::places` meets its contract. Assumes nothing.
 use Rattle.rules.specs.Tables.{places}
 use Rattle.tables.proofs.element.places.Statement.{statement}
 use Rattle.tables.proofs.element.places.Tie as tie

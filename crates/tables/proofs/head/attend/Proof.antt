@@ -1,6 +1,5 @@
 -- `tables::head::attend` meets its contract. Assumes nothing.
 use mathlib.Core.Path.{_∙_}
--- `tables::head::attend` meets its contract. Assumes nothing.
 use Rattle.rules.specs.Tables.{attended}
 use borrow.Author.Needs.{needs}
 use Rattle.tables.proofs.head.attend.Statement.{statement}

@@ -1,6 +1,5 @@
 -- `tables::mask::lowest` meets its contract. Assumes nothing.
 use borrow.Author.Needs.{needs}
--- `tables::mask::lowest` meets its contract. Assumes nothing.
 use native.Mathlib.Omega.{arith}
 use lib.Count.{trailing-le}
 use Rattle.tables.proofs.Masks.{zeros-are}

@@ -1,6 +1,5 @@
 -- `tables::mask::preventers` meets its contract. Assumes nothing.
 use borrow.Author.Needs.{needs}
--- `tables::mask::preventers` meets its contract. Assumes nothing.
 use native.Mathlib.Omega.{arith}
 use lib.Count.{ones-le}
 use Rattle.tables.proofs.Masks.{ones-are}
