@@ -1,0 +1,4 @@
+pub mod Places
+pub mod Sayings
+pub mod Bounds
+pub mod Examples

@@ -1,0 +1,80 @@
+// The words of a case file, by number.
+pub const CASE: u8 = 1;
+
+pub const TABLES_SMALL: u8 = 2;
+
+pub const TABLES_EMPTY: u8 = 3;
+
+pub const TRANSPORT: u8 = 4;
+
+pub const STORAGE: u8 = 5;
+
+pub const PORT: u8 = 6;
+
+pub const DRIVE: u8 = 7;
+
+pub const VOLUMES: u8 = 8;
+
+pub const LABEL: u8 = 9;
+
+pub const LENGTH_HEAD: u8 = 10;
+
+pub const LENGTH_ELEMENTS: u8 = 11;
+
+pub const LENGTH_TAGS: u8 = 12;
+
+pub const LENGTH_BLANK: u8 = 13;
+
+pub const HOST: u8 = 14;
+
+pub const BUFFER: u8 = 15;
+
+pub const PARAMETERS: u8 = 16;
+
+pub const COMMAND: u8 = 17;
+
+pub const IMPORT: u8 = 18;
+
+pub const EXPORT: u8 = 19;
+
+pub const RESET: u8 = 20;
+
+pub const NUMBER: u8 = 21;
+
+pub const STATUS: u8 = 22;
+
+pub const COUNT: u8 = 23;
+
+pub const PREVENTERS: u8 = 24;
+
+pub const LOWEST: u8 = 25;
+
+pub const ANSWER: u8 = 26;
+
+pub const VOLUME: u8 = 27;
+
+pub const SOURCE: u8 = 28;
+
+pub const HOLDER: u8 = 29;
+
+pub const ID: u8 = 30;
+
+pub const MARK: u8 = 31;
+
+pub const UNIT: u8 = 32;
+
+pub const MASK: u8 = 33;
+
+pub const SENSE: u8 = 34;
+
+pub const ATTENTION: u8 = 35;
+
+pub const HEAD: u8 = 36;
+
+pub const ELEMENTS: u8 = 37;
+
+pub const TAGS: u8 = 38;
+
+pub const BLANK: u8 = 39;
+
+pub const KEPT: u8 = 40;

@@ -1,0 +1,3 @@
+// The lines that make the tables.
+pub mod build;
+pub mod table;

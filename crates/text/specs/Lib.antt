@@ -1,0 +1,4 @@
+pub mod Text
+pub mod Codes
+pub mod Numbers
+pub mod Bytes

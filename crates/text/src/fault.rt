@@ -1,0 +1,8 @@
+// Why a number or a byte can not be read.
+pub const NUMBER_EXPECTED: u8 = 2;
+
+pub const NUMBER_TOO_LARGE: u8 = 3;
+
+pub const BYTE_EXPECTED: u8 = 4;
+
+pub const TOO_MANY_BYTES: u8 = 5;
