@@ -8,7 +8,7 @@ use lib.Seq.{take-at, take-all}
 use lib.Dec.{eqb}
 use borrow.Rule.Slice.PartMut.{putMid, same-len-mid}
 use Rattle.rules.specs.Choice.{when}
-use Rattle.rules.specs.Tables.{Tables, lent}
+use Rattle.rules.specs.Tables.{Tables, lent, others}
 use Rattle.rules.specs.Order.{Outcome}
 use Rattle.rules.specs.Command.{import, export, reset}
 use Rattle.order.specs.declared.Reply.{Reply}
@@ -18,9 +18,9 @@ use Rattle.calls.specs.Called.{beside, called}
 use Rattle.rooms.specs.Alike.{untouched}
 
 -- an event is lent no answer buffer
-pub event : (r : Reply) (head elements buffer : List ℕ) (o : Outcome) → ended r head elements [] ≡ o → ended r head elements buffer ≡ beside buffer o
+pub event : (r : Reply) (t : Tables) (buffer : List ℕ) (o : Outcome) → ended r t [] ≡ o → ended r t buffer ≡ beside buffer o
 unfolding beside
-event r head elements buffer o e = ap (beside buffer) e
+event r t buffer o e = ap (beside buffer) e
 
 -- the front of a room, lent and given back: the code's k bytes are the n that were asked for, or all that there are
 module _ (xs : List ℕ) (n k : ℕ) (e : k ≡ min n (length xs)) where
@@ -55,6 +55,6 @@ module _ (xs : List ℕ) (n k : ℕ) (e : k ≡ min n (length xs)) (filled : Lis
 -- the outcome of a call on what was lent is that of the call on what was meant
 pub carried : (w f s host : ℕ) (r : Reply) (block head head′ elements elements′ answer answer′ h h′ es es′ tags tags′ blank blank′ ps ps′ buffer buffer′ : List ℕ)
     → head′ ≡ head → elements′ ≡ elements → answer′ ≡ answer → h ≡ h′ → es ≡ es′ → tags ≡ tags′ → blank ≡ blank′ → ps ≡ ps′ → buffer ≡ buffer′
-    → ended r head elements answer ≡ called w f s (lent h es tags blank) host block ps buffer
-    → ended r head′ elements′ answer′ ≡ called w f s (lent h′ es′ tags′ blank′) host block ps′ buffer′
+    → ended r (lent head elements (others tags blank)) answer ≡ called w f s (lent h es (others tags blank)) host block ps buffer
+    → ended r (lent head′ elements′ (others tags′ blank′)) answer′ ≡ called w f s (lent h′ es′ (others tags′ blank′)) host block ps′ buffer′
 carried w f s host r block head head′ elements elements′ answer answer′ h h′ es es′ tags tags′ blank blank′ ps ps′ buffer buffer′ a b c d e i j k l m = cc

@@ -24,8 +24,7 @@ beside buffer o =
       count = o .count;
       preventers = o .preventers;
       lowest = o .lowest;
-      head = o .head;
-      elements = o .elements;
+      tables = o .tables;
       buffer = buffer;
     }
 

@@ -10,7 +10,7 @@ use script::fault;
 use script::word;
 ghost use mathlib.Core.Path.{_≡_};
 ghost use lib.ListN.{length, take};
-ghost use Rattle.rules.specs.Tables.{lent};
+ghost use Rattle.rules.specs.Tables.{lent, others};
 ghost use Rattle.order.specs.Ending.{ended};
 ghost use Rattle.rooms.specs.Parts.{part as partOf, tagsAt, blankAt, parametersAt};
 ghost use Rattle.rooms.specs.Alike.{untouched as untouchedOf, pastCount};
@@ -30,7 +30,7 @@ fn enter<'a>(
     parameters: &[u8],
     answer: &mut [u8],
 ) -> Reply
-    ensures { λ r. ⌜ ended r (now (head .exit)) (now (elements .exit)) (now (answer .exit)) ≡ called what first second (lent (now (head .entry)) (now (elements .entry)) (now (tags .entry)) (now (blank .entry))) host (now (block .entry)) (now (parameters .entry)) (now (answer .entry)) ⌝ }
+    ensures { λ r. ⌜ ended r (lent (now (head .exit)) (now (elements .exit)) (others (now (tags .entry)) (now (blank .entry)))) (now (answer .exit)) ≡ called what first second (lent (now (head .entry)) (now (elements .entry)) (others (now (tags .entry)) (now (blank .entry)))) host (now (block .entry)) (now (parameters .entry)) (now (answer .entry)) ⌝ }
 {
     if what == word::COMMAND {
         return changer::smc_command(head, elements, tags, blank, host, block, parameters, answer);
@@ -54,7 +54,7 @@ fn made(
     answer: &mut [u8],
     block: &[u8],
 ) -> Reply
-    ensures { λ r. ⌜ ended r (take (state .sizes .head) (now (head .exit))) (take (state .sizes .elements) (now (elements .exit))) (take (state .buffer) (now (answer .exit))) ≡ called (line .word) (line .first) (line .second) (lent (take (state .sizes .head) (now (head .entry))) (take (state .sizes .elements) (now (elements .entry))) (partOf (now (room .entry)) tagsAt (state .sizes .tags)) (partOf (now (room .entry)) blankAt (state .sizes .blank))) (state .host) (now (block .entry)) (partOf (now (room .entry)) parametersAt (state .parameters)) (untouchedOf (length (take (state .buffer) (now (answer .entry))))) ⌝ }
+    ensures { λ r. ⌜ ended r (lent (take (state .sizes .head) (now (head .exit))) (take (state .sizes .elements) (now (elements .exit))) (others (partOf (now (room .entry)) tagsAt (state .sizes .tags)) (partOf (now (room .entry)) blankAt (state .sizes .blank)))) (take (state .buffer) (now (answer .exit))) ≡ called (line .word) (line .first) (line .second) (lent (take (state .sizes .head) (now (head .entry))) (take (state .sizes .elements) (now (elements .entry))) (others (partOf (now (room .entry)) tagsAt (state .sizes .tags)) (partOf (now (room .entry)) blankAt (state .sizes .blank)))) (state .host) (now (block .entry)) (partOf (now (room .entry)) parametersAt (state .parameters)) (untouchedOf (length (take (state .buffer) (now (answer .entry))))) ⌝ }
 {
     let sizes = state.sizes;
     let h = rooms::least(sizes.head, head.len());

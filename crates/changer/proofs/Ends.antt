@@ -10,7 +10,7 @@ use Rattle.order.specs.declared.Reply.{Reply}
 use Rattle.order.specs.Ending.{ended, numbered}
 
 -- refused by a house number
-pub number-ends : (t : Tables) (b : List ℕ) (n : ℕ) (v : Verdict) (r : Reply) → r ≡ numbered n → Number n ≡ v → ended r (t .head) (t .elements) b ≡ outcome t b v
+pub number-ends : (t : Tables) (b : List ℕ) (n : ℕ) (v : Verdict) (r : Reply) → r ≡ numbered n → Number n ≡ v → ended r t b ≡ outcome t b v
 unfolding outcome
 number-ends t b n v r e f = rw (e, sym f)
 

@@ -4,7 +4,7 @@ pub mod serving;
 use order::Reply;
 ghost use mathlib.Core.Path.{_≡_};
 ghost use mathlib.Core.List.{[]};
-ghost use Rattle.rules.specs.Tables.{lent};
+ghost use Rattle.rules.specs.Tables.{lent, others};
 ghost use Rattle.rules.specs.Command.{command, import, export, reset};
 ghost use Rattle.order.specs.Ending.{ended};
 
@@ -19,7 +19,7 @@ pub extern "C" fn smc_command<'a>(
     parameters: &[u8],
     answer: &mut [u8],
 ) -> Reply
-    ensures { λ r. ⌜ ended r (now (head .exit)) (now (elements .exit)) (now (answer .exit)) ≡ command (lent (now (head .entry)) (now (elements .entry)) (now (tags .entry)) (now (blank .entry))) host (now (block .entry)) (now (parameters .entry)) (now (answer .entry)) ⌝ }
+    ensures { λ r. ⌜ ended r (lent (now (head .exit)) (now (elements .exit)) (others (now (tags .entry)) (now (blank .entry)))) (now (answer .exit)) ≡ command (lent (now (head .entry)) (now (elements .entry)) (others (now (tags .entry)) (now (blank .entry)))) host (now (block .entry)) (now (parameters .entry)) (now (answer .entry)) ⌝ }
 {
     serving::serve(head, elements, tags, blank, host, block, parameters, answer)
 }
@@ -35,7 +35,7 @@ pub extern "C" fn smc_test_unit_ready<'a>(
     parameters: &[u8],
     answer: &mut [u8],
 ) -> Reply
-    ensures { λ r. ⌜ ended r (now (head .exit)) (now (elements .exit)) (now (answer .exit)) ≡ command (lent (now (head .entry)) (now (elements .entry)) (now (tags .entry)) (now (blank .entry))) host (now (block .entry)) (now (parameters .entry)) (now (answer .entry)) ⌝ }
+    ensures { λ r. ⌜ ended r (lent (now (head .exit)) (now (elements .exit)) (others (now (tags .entry)) (now (blank .entry)))) (now (answer .exit)) ≡ command (lent (now (head .entry)) (now (elements .entry)) (others (now (tags .entry)) (now (blank .entry)))) host (now (block .entry)) (now (parameters .entry)) (now (answer .entry)) ⌝ }
 {
     serving::serve(head, elements, tags, blank, host, block, parameters, answer)
 }
@@ -51,7 +51,7 @@ pub extern "C" fn smc_request_sense<'a>(
     parameters: &[u8],
     answer: &mut [u8],
 ) -> Reply
-    ensures { λ r. ⌜ ended r (now (head .exit)) (now (elements .exit)) (now (answer .exit)) ≡ command (lent (now (head .entry)) (now (elements .entry)) (now (tags .entry)) (now (blank .entry))) host (now (block .entry)) (now (parameters .entry)) (now (answer .entry)) ⌝ }
+    ensures { λ r. ⌜ ended r (lent (now (head .exit)) (now (elements .exit)) (others (now (tags .entry)) (now (blank .entry)))) (now (answer .exit)) ≡ command (lent (now (head .entry)) (now (elements .entry)) (others (now (tags .entry)) (now (blank .entry)))) host (now (block .entry)) (now (parameters .entry)) (now (answer .entry)) ⌝ }
 {
     serving::serve(head, elements, tags, blank, host, block, parameters, answer)
 }
@@ -67,7 +67,7 @@ pub extern "C" fn smc_reserve<'a>(
     parameters: &[u8],
     answer: &mut [u8],
 ) -> Reply
-    ensures { λ r. ⌜ ended r (now (head .exit)) (now (elements .exit)) (now (answer .exit)) ≡ command (lent (now (head .entry)) (now (elements .entry)) (now (tags .entry)) (now (blank .entry))) host (now (block .entry)) (now (parameters .entry)) (now (answer .entry)) ⌝ }
+    ensures { λ r. ⌜ ended r (lent (now (head .exit)) (now (elements .exit)) (others (now (tags .entry)) (now (blank .entry)))) (now (answer .exit)) ≡ command (lent (now (head .entry)) (now (elements .entry)) (others (now (tags .entry)) (now (blank .entry)))) host (now (block .entry)) (now (parameters .entry)) (now (answer .entry)) ⌝ }
 {
     serving::serve(head, elements, tags, blank, host, block, parameters, answer)
 }
@@ -83,7 +83,7 @@ pub extern "C" fn smc_release<'a>(
     parameters: &[u8],
     answer: &mut [u8],
 ) -> Reply
-    ensures { λ r. ⌜ ended r (now (head .exit)) (now (elements .exit)) (now (answer .exit)) ≡ command (lent (now (head .entry)) (now (elements .entry)) (now (tags .entry)) (now (blank .entry))) host (now (block .entry)) (now (parameters .entry)) (now (answer .entry)) ⌝ }
+    ensures { λ r. ⌜ ended r (lent (now (head .exit)) (now (elements .exit)) (others (now (tags .entry)) (now (blank .entry)))) (now (answer .exit)) ≡ command (lent (now (head .entry)) (now (elements .entry)) (others (now (tags .entry)) (now (blank .entry)))) host (now (block .entry)) (now (parameters .entry)) (now (answer .entry)) ⌝ }
 {
     serving::serve(head, elements, tags, blank, host, block, parameters, answer)
 }
@@ -99,7 +99,7 @@ pub extern "C" fn smc_prevent_allow<'a>(
     parameters: &[u8],
     answer: &mut [u8],
 ) -> Reply
-    ensures { λ r. ⌜ ended r (now (head .exit)) (now (elements .exit)) (now (answer .exit)) ≡ command (lent (now (head .entry)) (now (elements .entry)) (now (tags .entry)) (now (blank .entry))) host (now (block .entry)) (now (parameters .entry)) (now (answer .entry)) ⌝ }
+    ensures { λ r. ⌜ ended r (lent (now (head .exit)) (now (elements .exit)) (others (now (tags .entry)) (now (blank .entry)))) (now (answer .exit)) ≡ command (lent (now (head .entry)) (now (elements .entry)) (others (now (tags .entry)) (now (blank .entry)))) host (now (block .entry)) (now (parameters .entry)) (now (answer .entry)) ⌝ }
 {
     serving::serve(head, elements, tags, blank, host, block, parameters, answer)
 }
@@ -115,7 +115,7 @@ pub extern "C" fn smc_move_medium<'a>(
     parameters: &[u8],
     answer: &mut [u8],
 ) -> Reply
-    ensures { λ r. ⌜ ended r (now (head .exit)) (now (elements .exit)) (now (answer .exit)) ≡ command (lent (now (head .entry)) (now (elements .entry)) (now (tags .entry)) (now (blank .entry))) host (now (block .entry)) (now (parameters .entry)) (now (answer .entry)) ⌝ }
+    ensures { λ r. ⌜ ended r (lent (now (head .exit)) (now (elements .exit)) (others (now (tags .entry)) (now (blank .entry)))) (now (answer .exit)) ≡ command (lent (now (head .entry)) (now (elements .entry)) (others (now (tags .entry)) (now (blank .entry)))) host (now (block .entry)) (now (parameters .entry)) (now (answer .entry)) ⌝ }
 {
     serving::serve(head, elements, tags, blank, host, block, parameters, answer)
 }
@@ -131,7 +131,7 @@ pub extern "C" fn smc_exchange_medium<'a>(
     parameters: &[u8],
     answer: &mut [u8],
 ) -> Reply
-    ensures { λ r. ⌜ ended r (now (head .exit)) (now (elements .exit)) (now (answer .exit)) ≡ command (lent (now (head .entry)) (now (elements .entry)) (now (tags .entry)) (now (blank .entry))) host (now (block .entry)) (now (parameters .entry)) (now (answer .entry)) ⌝ }
+    ensures { λ r. ⌜ ended r (lent (now (head .exit)) (now (elements .exit)) (others (now (tags .entry)) (now (blank .entry)))) (now (answer .exit)) ≡ command (lent (now (head .entry)) (now (elements .entry)) (others (now (tags .entry)) (now (blank .entry)))) host (now (block .entry)) (now (parameters .entry)) (now (answer .entry)) ⌝ }
 {
     serving::serve(head, elements, tags, blank, host, block, parameters, answer)
 }
@@ -147,7 +147,7 @@ pub extern "C" fn smc_read_element_status<'a>(
     parameters: &[u8],
     answer: &mut [u8],
 ) -> Reply
-    ensures { λ r. ⌜ ended r (now (head .exit)) (now (elements .exit)) (now (answer .exit)) ≡ command (lent (now (head .entry)) (now (elements .entry)) (now (tags .entry)) (now (blank .entry))) host (now (block .entry)) (now (parameters .entry)) (now (answer .entry)) ⌝ }
+    ensures { λ r. ⌜ ended r (lent (now (head .exit)) (now (elements .exit)) (others (now (tags .entry)) (now (blank .entry)))) (now (answer .exit)) ≡ command (lent (now (head .entry)) (now (elements .entry)) (others (now (tags .entry)) (now (blank .entry)))) host (now (block .entry)) (now (parameters .entry)) (now (answer .entry)) ⌝ }
 {
     serving::serve(head, elements, tags, blank, host, block, parameters, answer)
 }
@@ -161,12 +161,12 @@ pub extern "C" fn smc_import<'a>(
     address: u32,
     volume: u32,
 ) -> Reply
-    ensures { λ r. ⌜ ended r (now (head .exit)) (now (elements .exit)) [] ≡ import (lent (now (head .entry)) (now (elements .entry)) (now (tags .entry)) (now (blank .entry))) address volume ⌝ }
+    ensures { λ r. ⌜ ended r (lent (now (head .exit)) (now (elements .exit)) (others (now (tags .entry)) (now (blank .entry)))) [] ≡ import (lent (now (head .entry)) (now (elements .entry)) (others (now (tags .entry)) (now (blank .entry)))) address volume ⌝ }
 {
     if !sound::sound(head, elements, tags, blank) {
         return order::numbered(1);
     }
-    events::import(head, elements, tags, blank, address, volume)
+    events::import(head, elements, tags, address, volume)
 }
 
 #[no_mangle]
@@ -177,12 +177,12 @@ pub extern "C" fn smc_export<'a>(
     blank: &'a [u8],
     address: u32,
 ) -> Reply
-    ensures { λ r. ⌜ ended r (now (head .exit)) (now (elements .exit)) [] ≡ export (lent (now (head .entry)) (now (elements .entry)) (now (tags .entry)) (now (blank .entry))) address ⌝ }
+    ensures { λ r. ⌜ ended r (lent (now (head .exit)) (now (elements .exit)) (others (now (tags .entry)) (now (blank .entry)))) [] ≡ export (lent (now (head .entry)) (now (elements .entry)) (others (now (tags .entry)) (now (blank .entry)))) address ⌝ }
 {
     if !sound::sound(head, elements, tags, blank) {
         return order::numbered(1);
     }
-    events::export(head, elements, tags, blank, address)
+    events::export(head, elements, address)
 }
 
 #[no_mangle]
@@ -192,10 +192,10 @@ pub extern "C" fn smc_reset<'a>(
     tags: &'a [u8],
     blank: &'a [u8],
 ) -> Reply
-    ensures { λ r. ⌜ ended r (now (head .exit)) (now (elements .exit)) [] ≡ reset (lent (now (head .entry)) (now (elements .entry)) (now (tags .entry)) (now (blank .entry))) ⌝ }
+    ensures { λ r. ⌜ ended r (lent (now (head .exit)) (now (elements .exit)) (others (now (tags .entry)) (now (blank .entry)))) [] ≡ reset (lent (now (head .entry)) (now (elements .entry)) (others (now (tags .entry)) (now (blank .entry)))) ⌝ }
 {
     if !sound::sound(head, elements, tags, blank) {
         return order::numbered(1);
     }
-    events::reset(head, elements, tags, blank)
+    events::reset(head, elements)
 }

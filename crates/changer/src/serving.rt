@@ -1,7 +1,7 @@
 // House numbers 1 to 5, in their order, round the steps.
 use order::Reply;
 ghost use mathlib.Core.Path.{_≡_};
-ghost use Rattle.rules.specs.Tables.{lent};
+ghost use Rattle.rules.specs.Tables.{lent, others};
 ghost use Rattle.rules.specs.Command.{command};
 ghost use Rattle.order.specs.Ending.{ended};
 
@@ -16,7 +16,7 @@ pub fn serve<'a>(
     parameters: &[u8],
     answer: &mut [u8],
 ) -> Reply
-    ensures { λ r. ⌜ ended r (now (head .exit)) (now (elements .exit)) (now (answer .exit)) ≡ command (lent (now (head .entry)) (now (elements .entry)) (now (tags .entry)) (now (blank .entry))) host (now (block .entry)) (now (parameters .entry)) (now (answer .entry)) ⌝ }
+    ensures { λ r. ⌜ ended r (lent (now (head .exit)) (now (elements .exit)) (others (now (tags .entry)) (now (blank .entry)))) (now (answer .exit)) ≡ command (lent (now (head .entry)) (now (elements .entry)) (others (now (tags .entry)) (now (blank .entry)))) host (now (block .entry)) (now (parameters .entry)) (now (answer .entry)) ⌝ }
 {
     let whole = sound::sound(head, elements, tags, blank);
     let known = steps::judging::known_host(host);

@@ -1,29 +1,21 @@
 -- Import and export judged as the code does it, return by return. Assumes nothing.
 use Prim.Native.Nat.{ℕ, _<_, _≤_}
-use native.Mathlib.Omega.{arith}
 use mathlib.Core.Path.{_≡_, refl, sym, ap, _∙_}
 use mathlib.Core.Logic.{_≢_}
 use mathlib.Core.Bool.{Bool, true, false}
 use mathlib.Core.List.{[], _∷_}
-use lib.ListN.{length}
 use borrow.Author.Tests.{eq-eqb, ne-eqb, lt-ltb, le-ltb, ltb-false}
 use Rattle.rules.specs.Choice.{when, anyOf}
-use Rattle.rules.specs.Tables.{Tables, headSize, mask, volume, volumes, Fill, Announce}
+use Rattle.rules.specs.Tables.{Tables, mask, volume, volumes, Fill, Announce}
 use Rattle.rules.specs.Roster.{roster, placeOf}
 use Rattle.rules.specs.Sound.{sound}
 use Rattle.rules.specs.Order.{Verdict, Number, Prevented, volumeOf}
 use Rattle.rules.specs.Events.{preventers, lowest, noPort, atPort, present, wrongVolume, done, importing, exporting}
 use Rattle.rules.proofs.Ladder.{yes, no, eq-is, eq-not, differ-is, differ-not, any-first, any-rest, any-by-first, any-by-rest}
-use Rattle.rules.proofs.Soundness.{sound-true}
 use Rattle.tables.specs.declared.Found.{Found}
 use Rattle.tables.specs.declared.Found.the-variants.{At, Nothing}
 use Rattle.events.specs.Judged.{portAt}
 use Rattle.events.proofs.Ports.{nothing-there, port-kind, port-place}
-
--- ---- sound tables have room for what is read
-
-pub head-length : (t : Tables) → sound t ≡ true → headSize ≤ length (t .head)
-head-length t s = omega (arith, sound-true t s .head-fits .length-is)
 
 -- ---- number 9: the code read V as n
 
@@ -32,23 +24,23 @@ module _ (t : Tables) (v : ℕ) where
   unfolding wrongVolume
   wrong-zero e = sym (any-by-first _ _ (eq-eqb v 0 e))
 
-  module _ (n : ℕ) (top : n ≡ volumes (t .tags)) where
+  module _ (n : ℕ) (top : n ≡ volumes (t .rest .tags)) where
     pub wrong-above : n < v → true ≡ wrongVolume t v
     unfolding wrongVolume
-    wrong-above l = sym (any-by-rest _ _ (any-by-first _ _ (lt-ltb (volumes (t .tags)) v (rw top at l))))
+    wrong-above l = sym (any-by-rest _ _ (any-by-first _ _ (lt-ltb (volumes (t .rest .tags)) v (rw top at l))))
 
     pub wrong-present : v ≢ 0 → v ≤ n → (r : Bool) → r ≡ present (t .elements) v → r ≡ wrongVolume t v
     unfolding wrongVolume anyOf when
-    wrong-present d l r e = rw (ne-eqb v 0 d, le-ltb (volumes (t .tags)) v (rw top at l)) (e ∙ same (present (t .elements) v))
+    wrong-present d l r e = rw (ne-eqb v 0 d, le-ltb (volumes (t .rest .tags)) v (rw top at l)) (e ∙ same (present (t .elements) v))
       where
         same : (b : Bool) → b ≡ when b true false
         same true = refl
         same false = refl
 
   -- a volume number that is not wrong is at most V
-  pub right-small : (r : Bool) → r ≡ wrongVolume t v → r ≡ false → v ≤ volumes (t .tags)
+  pub right-small : (r : Bool) → r ≡ wrongVolume t v → r ≡ false → v ≤ volumes (t .rest .tags)
   unfolding wrongVolume
-  right-small r is e = ltb-false (volumes (t .tags)) v (any-first _ _ (any-rest _ _ (sym is ∙ e)))
+  right-small r is e = ltb-false (volumes (t .rest .tags)) v (any-first _ _ (any-rest _ _ (sym is ∙ e)))
 
 -- ---- numbers 6 to 9
 

@@ -5,7 +5,7 @@ use mathlib.Core.Bool.{true}
 use mathlib.Core.List.{List, [], _∷_}
 use Rattle.rules.specs.Choice.{when, each}
 use Rattle.rules.specs.Bytes.{put}
-use Rattle.rules.specs.Tables.{Tables, lent, hosts, unitHeld, masked, freed, Anyone, HoldUnit, Free, Prevent, change, changes, inHead, inElements}
+use Rattle.rules.specs.Tables.{Tables, lent, hosts, unitHeld, masked, freed, Anyone, HoldUnit, Free, Prevent, change, changes, inHead, inElements, Rest}
 use Rattle.rules.specs.Sound.{sound}
 use Rattle.rules.specs.Order.{GOOD, outcome}
 use Rattle.rules.specs.Events.{done, restartedFrom, resetting}
@@ -13,19 +13,19 @@ use Rattle.order.specs.declared.Reply.{Reply}
 use Rattle.order.specs.Ending.{ended, told}
 use Rattle.events.specs.Judged.{restartedAt}
 
-pub restarted-is : (n h : ℕ) (head elements tags blank : List ℕ)
-    → lent (each restartedAt n h head) elements tags blank ≡ changes (restartedFrom n h) (lent head elements tags blank)
+pub restarted-is : (n h : ℕ) (head elements : List ℕ) (rest : Rest)
+    → lent (each restartedAt n h head) elements rest ≡ changes (restartedFrom n h) (lent head elements rest)
 unfolding each restartedAt restartedFrom changes change inHead inElements
-restarted-is zero h head elements tags blank = refl
-restarted-is (suc n) h head elements tags blank = restarted-is n (suc h) (restartedAt h head) elements tags blank
+restarted-is zero h head elements rest = refl
+restarted-is (suc n) h head elements rest = restarted-is n (suc h) (restartedAt h head) elements rest
 
 module _ (t : Tables) (freeUnit allow restarted elements : List ℕ) (unit : freeUnit ≡ unitHeld (t .head) 0)
     (free : elements ≡ freed Anyone (t .elements)) (mask : allow ≡ masked freeUnit 0)
-    (hosts-are : (es ts bs : List ℕ) → lent restarted es ts bs ≡ changes (restartedFrom hosts 1) (lent allow es ts bs)) where
-  reset-is : lent restarted elements (t .tags) (t .blank) ≡ changes (HoldUnit 0 ∷ Free Anyone ∷ Prevent 0 ∷ restartedFrom hosts 1) t
+    (hosts-are : (es : List ℕ) (rest : Rest) → lent restarted es rest ≡ changes (restartedFrom hosts 1) (lent allow es rest)) where
+  reset-is : lent restarted elements (t .rest) ≡ changes (HoldUnit 0 ∷ Free Anyone ∷ Prevent 0 ∷ restartedFrom hosts 1) t
   unfolding changes change inHead inElements
-  reset-is = cc (hosts-are elements (t .tags) (t .blank))
+  reset-is = cc (hosts-are elements (t .rest))
 
-  pub reset-ends : sound t ≡ true → (r : Reply) → r ≡ told GOOD 0 → ended r restarted elements [] ≡ outcome t [] (resetting t)
+  pub reset-ends : sound t ≡ true → (r : Reply) → r ≡ told GOOD 0 → ended r (lent restarted elements (t .rest)) [] ≡ outcome t [] (resetting t)
   unfolding resetting outcome done put when
   reset-ends s r is = rw (s, is, ← reset-is)

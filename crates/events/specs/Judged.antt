@@ -2,7 +2,7 @@
 use Prim.Native.Nat.{ℕ, _<_}
 use mathlib.Core.List.{List, [], _∷_}
 use Rattle.rules.specs.Choice.{when, differ}
-use Rattle.rules.specs.Tables.{lent, Fill, Announce, changes}
+use Rattle.rules.specs.Tables.{lent, Fill, Announce, changes, bare}
 use Rattle.rules.specs.Roster.{Slot, placeOf, kindOf, port}
 use Rattle.rules.specs.Order.{Verdict, Number, Prevented}
 use Rattle.rules.specs.Events.{preventers, lowest, done, restartedFrom}
@@ -33,4 +33,4 @@ Within n (ruling.Fill p v m) = p < n
 
 -- the head after one host's changes of a reset
 unfoldable pub restartedAt : ℕ → List ℕ → List ℕ
-restartedAt h head = changes (restartedFrom 1 h) (lent head [] [] []) .head
+restartedAt h head = changes (restartedFrom 1 h) (lent head [] bare) .head

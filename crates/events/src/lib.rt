@@ -7,7 +7,7 @@ ghost use mathlib.Core.Bool.{true};
 ghost use mathlib.Core.List.{List, []};
 ghost use Prim.Native.Nat.{ℕ, _*_, _≤_};
 ghost use lib.ListN.{length};
-ghost use Rattle.rules.specs.Tables.{headSize, elementSize, hosts, places, volumes, lent, changes, announcedTo, announced};
+ghost use Rattle.rules.specs.Tables.{headSize, elementSize, hosts, places, volumes, lent, changes, announcedTo, announced, Rest};
 ghost use Rattle.rules.specs.Roster.{roster};
 ghost use Rattle.rules.specs.Sound.{sound};
 ghost use Rattle.rules.specs.Order.{outcome};
@@ -63,7 +63,7 @@ fn present(elements: &[u8], volume: u32) -> bool
 
 // "volume number 0, above V, or already in the library"
 fn wrong_volume(elements: &[u8], tags: &[u8], volume: u32) -> bool
-    ensures { λ r. ⌜ ((head blank : List ℕ) → r ≡ wrongVolume (lent head (now (elements .entry)) (now (tags .entry)) blank) volume) ⌝ }
+    ensures { λ r. ⌜ ((head : List ℕ) (rest : Rest) → rest .tags ≡ now (tags .entry) → r ≡ wrongVolume (lent head (now (elements .entry)) rest) volume) ⌝ }
 {
     if volume == 0 {
         return true;
@@ -79,7 +79,7 @@ fn judge_import(head: &[u8], elements: &[u8], tags: &[u8], address: u32, volume:
     requires { ⌜ headSize ≤ length (now head) ⌝ }
     requires { ⌜ length (now elements) ≡ elementSize * length (roster (now head)) ⌝ }
     requires { ⌜ volumes (now tags) ≤ 512 ⌝ }
-    ensures { λ r. ⌜ ((blank : List ℕ) → sound (lent (now (head .entry)) (now (elements .entry)) (now (tags .entry)) blank) ≡ true → meaning r ≡ importing (lent (now (head .entry)) (now (elements .entry)) (now (tags .entry)) blank) address volume) ⌝ }
+    ensures { λ r. ⌜ ((rest : Rest) → rest .tags ≡ now (tags .entry) → sound (lent (now (head .entry)) (now (elements .entry)) rest) ≡ true → meaning r ≡ importing (lent (now (head .entry)) (now (elements .entry)) rest) address volume) ⌝ }
     ensures { λ r. ⌜ Within (places (now (elements .entry))) r ⌝ }
 {
     let Found::At(place) = port_at(head, address) else {
@@ -106,7 +106,7 @@ fn judge_import(head: &[u8], elements: &[u8], tags: &[u8], address: u32, volume:
 fn judge_export(head: &[u8], elements: &[u8], address: u32) -> Ruling
     requires { ⌜ headSize ≤ length (now head) ⌝ }
     requires { ⌜ length (now elements) ≡ elementSize * length (roster (now head)) ⌝ }
-    ensures { λ r. ⌜ ((tags blank : List ℕ) → sound (lent (now (head .entry)) (now (elements .entry)) tags blank) ≡ true → meaning r ≡ exporting (lent (now (head .entry)) (now (elements .entry)) tags blank) address) ⌝ }
+    ensures { λ r. ⌜ ((rest : Rest) → sound (lent (now (head .entry)) (now (elements .entry)) rest) ≡ true → meaning r ≡ exporting (lent (now (head .entry)) (now (elements .entry)) rest) address) ⌝ }
     ensures { λ r. ⌜ Within (places (now (elements .entry))) r ⌝ }
 {
     let Found::At(place) = port_at(head, address) else {
@@ -153,7 +153,7 @@ fn announce(head: &mut [u8], asc: u8, ascq: u8)
 fn settle(head: &mut [u8], elements: &mut [u8], ruling: Ruling) -> Reply
     requires { ⌜ headSize ≤ length (now head) ⌝ }
     requires { ⌜ Within (places (now elements)) ruling ⌝ }
-    ensures { λ r. ⌜ ((tags blank : List ℕ) → ended r (now (head .exit)) (now (elements .exit)) [] ≡ outcome (lent (now (head .entry)) (now (elements .entry)) tags blank) [] (meaning ruling)) ⌝ }
+    ensures { λ r. ⌜ ((rest : Rest) → ended r (lent (now (head .exit)) (now (elements .exit)) rest) [] ≡ outcome (lent (now (head .entry)) (now (elements .entry)) rest) [] (meaning ruling)) ⌝ }
 {
     match ruling {
         Ruling::Number(number) => order::numbered(number),
@@ -177,31 +177,21 @@ fn settle(head: &mut [u8], elements: &mut [u8], ruling: Ruling) -> Reply
 }
 
 // "Import fills an element with source 0, mark 1"
-pub fn import<'a>(
-    head: &mut [u8],
-    elements: &mut [u8],
-    tags: &'a [u8],
-    blank: &'a [u8],
-    address: u32,
-    volume: u32,
-) -> Reply
-    requires { ⌜ sound (lent (now head) (now elements) (now tags) (now blank)) ≡ true ⌝ }
-    ensures { λ r. ⌜ ended r (now (head .exit)) (now (elements .exit)) [] ≡ outcome (lent (now (head .entry)) (now (elements .entry)) (now (tags .entry)) (now (blank .entry))) [] (importing (lent (now (head .entry)) (now (elements .entry)) (now (tags .entry)) (now (blank .entry))) address volume) ⌝ }
+pub fn import(head: &mut [u8], elements: &mut [u8], tags: &[u8], address: u32, volume: u32) -> Reply
+    requires { ⌜ headSize ≤ length (now head) ⌝ }
+    requires { ⌜ length (now elements) ≡ elementSize * length (roster (now head)) ⌝ }
+    requires { ⌜ volumes (now tags) ≤ 512 ⌝ }
+    ensures { λ r. ⌜ ((rest : Rest) → rest .tags ≡ now (tags .entry) → sound (lent (now (head .entry)) (now (elements .entry)) rest) ≡ true → ended r (lent (now (head .exit)) (now (elements .exit)) rest) [] ≡ outcome (lent (now (head .entry)) (now (elements .entry)) rest) [] (importing (lent (now (head .entry)) (now (elements .entry)) rest) address volume)) ⌝ }
 {
     let ruling = judge_import(head, elements, tags, address, volume);
     settle(head, elements, ruling)
 }
 
 // "export empties it, mark 0, source 0"
-pub fn export<'a>(
-    head: &mut [u8],
-    elements: &mut [u8],
-    tags: &'a [u8],
-    blank: &'a [u8],
-    address: u32,
-) -> Reply
-    requires { ⌜ sound (lent (now head) (now elements) (now tags) (now blank)) ≡ true ⌝ }
-    ensures { λ r. ⌜ ended r (now (head .exit)) (now (elements .exit)) [] ≡ outcome (lent (now (head .entry)) (now (elements .entry)) (now (tags .entry)) (now (blank .entry))) [] (exporting (lent (now (head .entry)) (now (elements .entry)) (now (tags .entry)) (now (blank .entry))) address) ⌝ }
+pub fn export(head: &mut [u8], elements: &mut [u8], address: u32) -> Reply
+    requires { ⌜ headSize ≤ length (now head) ⌝ }
+    requires { ⌜ length (now elements) ≡ elementSize * length (roster (now head)) ⌝ }
+    ensures { λ r. ⌜ ((rest : Rest) → sound (lent (now (head .entry)) (now (elements .entry)) rest) ≡ true → ended r (lent (now (head .exit)) (now (elements .exit)) rest) [] ≡ outcome (lent (now (head .entry)) (now (elements .entry)) rest) [] (exporting (lent (now (head .entry)) (now (elements .entry)) rest) address)) ⌝ }
 {
     let ruling = judge_export(head, elements, address);
     settle(head, elements, ruling)
@@ -220,7 +210,7 @@ fn restart_host(head: &mut [u8], host: u8)
 // "for all"
 fn restart(head: &mut [u8])
     requires { ⌜ headSize ≤ length (now head) ⌝ }
-    ensures { λ _. ⌜ ((elements tags blank : List ℕ) → lent (now (head .exit)) elements tags blank ≡ changes (restartedFrom hosts 1) (lent (now (head .entry)) elements tags blank)) ⌝ }
+    ensures { λ _. ⌜ ((elements : List ℕ) (rest : Rest) → lent (now (head .exit)) elements rest ≡ changes (restartedFrom hosts 1) (lent (now (head .entry)) elements rest)) ⌝ }
 {
     let mut host: u8 = 1;
     while host <= tables::HOSTS {
@@ -230,9 +220,9 @@ fn restart(head: &mut [u8])
 }
 
 // "Reset frees all reservations, clears mask and sense, sets attention 29h/00h for all; volumes stay."
-pub fn reset<'a>(head: &mut [u8], elements: &mut [u8], tags: &'a [u8], blank: &'a [u8]) -> Reply
-    requires { ⌜ sound (lent (now head) (now elements) (now tags) (now blank)) ≡ true ⌝ }
-    ensures { λ r. ⌜ ended r (now (head .exit)) (now (elements .exit)) [] ≡ outcome (lent (now (head .entry)) (now (elements .entry)) (now (tags .entry)) (now (blank .entry))) [] (resetting (lent (now (head .entry)) (now (elements .entry)) (now (tags .entry)) (now (blank .entry)))) ⌝ }
+pub fn reset(head: &mut [u8], elements: &mut [u8]) -> Reply
+    requires { ⌜ headSize ≤ length (now head) ⌝ }
+    ensures { λ r. ⌜ ((rest : Rest) → sound (lent (now (head .entry)) (now (elements .entry)) rest) ≡ true → ended r (lent (now (head .exit)) (now (elements .exit)) rest) [] ≡ outcome (lent (now (head .entry)) (now (elements .entry)) rest) [] (resetting (lent (now (head .entry)) (now (elements .entry)) rest))) ⌝ }
 {
     tables::head::hold_unit(head, 0);
     holds::free(elements, Whose::Anyone);

@@ -5,7 +5,7 @@ use mathlib.Core.Bool.{Bool, false}
 use mathlib.Core.List.{List, [], _∷_}
 use Rattle.rules.specs.Choice.{each}
 use Rattle.rules.specs.Bytes.{byte}
-use Rattle.rules.specs.Tables.{Tables, lent, unit, mask, Change, HoldUnit, Prevent, Free, Under, Every, inHead, inElements, change, changes}
+use Rattle.rules.specs.Tables.{Tables, lent, unit, mask, Change, HoldUnit, Prevent, Free, Under, Every, inHead, inElements, change, changes, Rest}
 use Rattle.rules.specs.Roster.{Slot, ranges, roster}
 use Rattle.rules.specs.Order.{Verdict, Outcome, outcome, good, stray}
 use Rattle.rules.specs.Holds.{descriptors, holdsFrom, granted, ofUnit, releaseMasks, releaseUnit, release, preventMasks, newMask, prevent}
@@ -20,48 +20,46 @@ use Rattle.holds.specs.Judged.{heldBy, granting}
 pub ends-as : (t : Tables) (buffer : List ℕ) {o : Outcome} {v w : Verdict} → o ≡ outcome t buffer v → v ≡ w → o ≡ outcome t buffer w
 ends-as t buffer e d = e ∙ ap (outcome t buffer) d
 
-module _ (r : Reply) (before head elements tags blank buffer : List ℕ) (h : ℕ)
-    (cleared : ended r head elements buffer ≡ outcome (lent before elements tags blank) buffer (good h [])) where
+module _ (r : Reply) (before head elements : List ℕ) (rest : Rest) (buffer : List ℕ) (h : ℕ)
+    (cleared : ended r (lent head elements rest) buffer ≡ outcome (lent before elements rest) buffer (good h [])) where
   -- then the changes cs were made
   pub good-with : (cs : List Change) (v : Verdict) (head′ elements′ : List ℕ) → good h cs ≡ v
-      → lent head′ elements′ tags blank ≡ changes cs (lent head elements tags blank)
-      → ended r head′ elements′ buffer ≡ outcome (lent before elements tags blank) buffer v
+      → lent head′ elements′ rest ≡ changes cs (lent head elements rest)
+      → ended r (lent head′ elements′ rest) buffer ≡ outcome (lent before elements rest) buffer v
   unfolding outcome good changes change inHead inElements
   good-with cs v head′ elements′ d e =
-      ends-as (lent before elements tags blank) buffer
+      ends-as (lent before elements rest) buffer
       (cc (
         ap (λ (o : Outcome). o .number) cleared,
         ap (λ (o : Outcome). o .status) cleared,
         ap (λ (o : Outcome). o .count) cleared,
         ap (λ (o : Outcome). o .preventers) cleared,
         ap (λ (o : Outcome). o .lowest) cleared,
-        ap (λ (o : Outcome). o .head) cleared,
+        ap (λ (o : Outcome). o .tables) cleared,
         ap (λ (o : Outcome). o .buffer) cleared,
-        ap (λ (t : Tables). t .head) e,
-        ap (λ (t : Tables). t .elements) e,
       ))
       d
 
-pub both : (head head′ elements elements′ tags blank : List ℕ) → head ≡ head′ → elements ≡ elements′ → lent head elements tags blank ≡ lent head′ elements′ tags blank
-both head head′ elements elements′ tags blank e d = cc
+pub both : (head head′ elements elements′ : List ℕ) (rest : Rest) → head ≡ head′ → elements ≡ elements′ → lent head elements rest ≡ lent head′ elements′ rest
+both head head′ elements elements′ rest e d = cc
 
 -- ---- the elements that the grant's changes leave
 
-module _ (ss : List Slot) (h i : ℕ) (list head tags blank : List ℕ) where
-  holds-are : (n k : ℕ) (xs : List ℕ) → lent head (each (heldBy ss h i list) n k xs) tags blank ≡ changes (holdsFrom ss h i list n k) (lent head xs tags blank)
+module _ (ss : List Slot) (h i : ℕ) (list head : List ℕ) (rest : Rest) where
+  holds-are : (n k : ℕ) (xs : List ℕ) → lent head (each (heldBy ss h i list) n k xs) rest ≡ changes (holdsFrom ss h i list n k) (lent head xs rest)
   unfolding each heldBy changes change inHead inElements holdsFrom
   holds-are zero k xs = refl
   holds-are (suc n) k xs = holds-are n (suc k) (heldBy ss h i list k xs)
 
-  grant-is : (xs : List ℕ) → lent head (granting ss h i list xs) tags blank ≡ changes (granted ss h i list) (lent head xs tags blank)
+  grant-is : (xs : List ℕ) → lent head (granting ss h i list xs) rest ≡ changes (granted ss h i list) (lent head xs rest)
   unfolding granting granted changes change inHead inElements
   grant-is xs = holds-are (descriptors list) 0 _
 
-pub grant-ends : (rs : List Range) (before head tags blank : List ℕ) (h i : ℕ) (list xs ys : List ℕ) → meant rs ≡ ranges before
-    → ys ≡ granting (rosterOf rs) h i list xs → lent head ys tags blank ≡ changes (granted (roster before) h i list) (lent head xs tags blank)
-grant-ends rs before head tags blank h i list xs ys m e =
-    ap (λ (zs : List ℕ). lent head zs tags blank) (e ∙ ap (λ (ss : List Slot). granting ss h i list xs) (roster-is rs before m))
-    ∙ grant-is (roster before) h i list head tags blank xs
+pub grant-ends : (rs : List Range) (before head : List ℕ) (rest : Rest) (h i : ℕ) (list xs ys : List ℕ) → meant rs ≡ ranges before
+    → ys ≡ granting (rosterOf rs) h i list xs → lent head ys rest ≡ changes (granted (roster before) h i list) (lent head xs rest)
+grant-ends rs before head rest h i list xs ys m e =
+    ap (λ (zs : List ℕ). lent head zs rest) (e ∙ ap (λ (ss : List Slot). granting ss h i list xs) (roster-is rs before m))
+    ∙ grant-is (roster before) h i list head rest xs
 
 -- ---- the verdicts of RELEASE and PREVENT ALLOW, from what the code reads
 

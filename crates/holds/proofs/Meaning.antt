@@ -5,7 +5,7 @@ use mathlib.Core.Bool.{Bool, true, false}
 use mathlib.Core.List.{List}
 use Rattle.rules.specs.Choice.{when}
 use Rattle.rules.specs.Bytes.{byte}
-use Rattle.rules.specs.Tables.{Tables, lent}
+use Rattle.rules.specs.Tables.{Tables, lent, Rest}
 use Rattle.rules.specs.Roster.{Slot, ranges, roster}
 use Rattle.rules.specs.Holds.{reserveUnit, reserveElements, reserve}
 use Rattle.rules.proofs.Ladder.{on}
@@ -54,9 +54,9 @@ unfolding reserveBy unitBy elementsBy anyOther meaning reserve reserveUnit reser
 reserve-means t h block list = simp (meaning-when, meaning-fault, told-is)
 
 -- of the answer x, which the code found to be y
-pub decided : (rs : List Range) (head elements tags blank : List ℕ) (h : ℕ) (block list : List ℕ) (x y : Ruling)
+pub decided : (rs : List Range) (head elements : List ℕ) (rest : Rest) (h : ℕ) (block list : List ℕ) (x y : Ruling)
     → meant rs ≡ ranges head → x ≡ reserveBy (rosterOf rs) elements h block list → x ≡ y
-    → meaning (roster head) h (byte block 2) list y ≡ reserve (lent head elements tags blank) h block list
-decided rs head elements tags blank h block list x y m is t =
+    → meaning (roster head) h (byte block 2) list y ≡ reserve (lent head elements rest) h block list
+decided rs head elements rest h block list x y m is t =
     ap (meaning (roster head) h (byte block 2) list) (sym t ∙ is ∙ ap (λ (ss : List Slot). reserveBy ss elements h block list) (roster-is rs head m))
-    ∙ reserve-means (lent head elements tags blank) h block list
+    ∙ reserve-means (lent head elements rest) h block list

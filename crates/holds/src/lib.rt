@@ -7,7 +7,7 @@ ghost use mathlib.Core.Path.{_≡_};
 ghost use mathlib.Core.List.{List};
 ghost use Prim.Native.Nat.{ℕ, _+_, _-_, _*_, _≤_};
 ghost use lib.ListN.{length};
-ghost use Rattle.rules.specs.Tables.{headSize, elementSize, elementAt, hosts, lent, held, theirs, freedAt, freed};
+ghost use Rattle.rules.specs.Tables.{headSize, elementSize, elementAt, hosts, lent, held, theirs, freedAt, freed, Rest};
 ghost use Rattle.rules.specs.Roster.{roster};
 ghost use Rattle.rules.specs.Order.{outcome, good};
 ghost use Rattle.rules.specs.Holds.{taken, conflicts, reserve, releaseUnit, release, newMask, prevent};
@@ -215,7 +215,7 @@ pub fn reserve(head: &mut [u8], elements: &mut [u8], host: u8, block: &[u8], lis
     requires { ⌜ length (now elements) ≡ elementSize * length (roster (now head)) ⌝ }
     requires { ⌜ host ≤ hosts ⌝ }
     requires { ⌜ length (now block) ≡ 6 ⌝ }
-    ensures { λ r. ⌜ ((tags blank buffer : List ℕ) → ended r (now (head .exit)) (now (elements .exit)) buffer ≡ outcome (lent (now (head .entry)) (now (elements .entry)) tags blank) buffer (reserve (lent (now (head .entry)) (now (elements .entry)) tags blank) host (now (block .entry)) (now (list .entry)))) ⌝ }
+    ensures { λ r. ⌜ ((rest : Rest) (buffer : List ℕ) → ended r (lent (now (head .exit)) (now (elements .exit)) rest) buffer ≡ outcome (lent (now (head .entry)) (now (elements .entry)) rest) buffer (reserve (lent (now (head .entry)) (now (elements .entry)) rest) host (now (block .entry)) (now (list .entry)))) ⌝ }
 {
     let rs = tables::ranges(head);
     let ruling = judge_reserve(rs, elements, host, block, list);
@@ -238,7 +238,7 @@ pub fn reserve(head: &mut [u8], elements: &mut [u8], host: u8, block: &[u8], lis
 fn release_unit(head: &mut [u8], elements: &mut [u8], host: u8) -> Reply
     requires { ⌜ headSize ≤ length (now head) ⌝ }
     requires { ⌜ host ≤ hosts ⌝ }
-    ensures { λ r. ⌜ ((tags blank buffer : List ℕ) → ended r (now (head .exit)) (now (elements .exit)) buffer ≡ outcome (lent (now (head .entry)) (now (elements .entry)) tags blank) buffer (good host (releaseUnit (lent (now (head .entry)) (now (elements .entry)) tags blank) host))) ⌝ }
+    ensures { λ r. ⌜ ((rest : Rest) (buffer : List ℕ) → ended r (lent (now (head .exit)) (now (elements .exit)) rest) buffer ≡ outcome (lent (now (head .entry)) (now (elements .entry)) rest) buffer (good host (releaseUnit (lent (now (head .entry)) (now (elements .entry)) rest) host))) ⌝ }
 {
     let unit = tables::head::unit(head);
     let reply = order::good(head, host);
@@ -254,7 +254,7 @@ pub fn release(head: &mut [u8], elements: &mut [u8], host: u8, block: &[u8]) -> 
     requires { ⌜ headSize ≤ length (now head) ⌝ }
     requires { ⌜ host ≤ hosts ⌝ }
     requires { ⌜ length (now block) ≡ 6 ⌝ }
-    ensures { λ r. ⌜ ((tags blank buffer : List ℕ) → ended r (now (head .exit)) (now (elements .exit)) buffer ≡ outcome (lent (now (head .entry)) (now (elements .entry)) tags blank) buffer (release (lent (now (head .entry)) (now (elements .entry)) tags blank) host (now (block .entry)))) ⌝ }
+    ensures { λ r. ⌜ ((rest : Rest) (buffer : List ℕ) → ended r (lent (now (head .exit)) (now (elements .exit)) rest) buffer ≡ outcome (lent (now (head .entry)) (now (elements .entry)) rest) buffer (release (lent (now (head .entry)) (now (elements .entry)) rest) host (now (block .entry)))) ⌝ }
 {
     let masks = [0x1E, 0x00, 0xFF, 0xFF, 0xFF];
     if order::stray(block, &masks) {
@@ -285,7 +285,7 @@ pub fn prevent_allow(head: &mut [u8], host: u8, block: &[u8]) -> Reply
     requires { ⌜ 1 ≤ host ⌝ }
     requires { ⌜ host ≤ hosts ⌝ }
     requires { ⌜ length (now block) ≡ 6 ⌝ }
-    ensures { λ r. ⌜ ((elements tags blank buffer : List ℕ) → ended r (now (head .exit)) elements buffer ≡ outcome (lent (now (head .entry)) elements tags blank) buffer (prevent (lent (now (head .entry)) elements tags blank) host (now (block .entry)))) ⌝ }
+    ensures { λ r. ⌜ ((elements : List ℕ) (rest : Rest) (buffer : List ℕ) → ended r (lent (now (head .exit)) elements rest) buffer ≡ outcome (lent (now (head .entry)) elements rest) buffer (prevent (lent (now (head .entry)) elements rest) host (now (block .entry)))) ⌝ }
 {
     let masks = [0x1F, 0xFF, 0xFF, 0xFE, 0xFF];
     if order::stray(block, &masks) {

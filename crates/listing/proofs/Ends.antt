@@ -10,7 +10,7 @@ use lib.Dec.{leb, ltb}
 use borrow.Author.Tests.{le-leb}
 use Rattle.rules.specs.Choice.{when, anyOf}
 use Rattle.rules.specs.Bytes.{word, triple}
-use Rattle.rules.specs.Tables.{Tables, lent, sensed, Sense, inHead, inElements, change, changes}
+use Rattle.rules.specs.Tables.{Tables, lent, sensed, Sense, inHead, inElements, change, changes, bare}
 use Rattle.rules.specs.Roster.{Slot, Range, ranges, sorted, roster, drive}
 use Rattle.rules.specs.Sound.{sound}
 use Rattle.rules.specs.Order.{Outcome, outcome, fits, Number, Done, GOOD, check, stray}
@@ -41,7 +41,7 @@ inside r f =
     either (r .count) 0 (λ z. let a = f .none z in record { begins = omega arith; ends = omega arith })
     λ n. let b = f .high n in record { begins = omega arith; ends = b }
 
-pub listable : (t : Tables) → sound t ≡ true → Listable (sorted (ranges (t .head))) (stock (t .elements) (t .tags) (t .blank))
+pub listable : (t : Tables) → sound t ≡ true → Listable (sorted (ranges (t .head))) (stock (t .elements) (t .rest .tags) (t .rest .blank))
 unfolding roster
 listable t e =
     let s = sound-true t e in
@@ -53,27 +53,27 @@ listable t e =
       differ = kinds-differ (t .head);
       stands = omega arith;
       labels = record {
-        blank = s .labels-fit .blank-length;
-        volumes = λ p h. let v = s .elements-fit .stocks p (omega arith) .small in let g = s .labels-fit .tags-length in omega arith;
+        blank = s .rest-fits .labels-fit .blank-length;
+        volumes = λ p h. let v = s .elements-fit .stocks p (omega arith) .small in let g = s .rest-fits .labels-fit .tags-length in omega arith;
       };
     }
 
 -- ---- the bytes are the rules'
 
 same-page : (tagged : Bool) (t : Tables) (kind : ℕ) (ss : List Slot)
-    → page tagged (stock (t .elements) (t .tags) (t .blank)) kind ss ≡ page tagged t kind ss
+    → page tagged (stock (t .elements) (t .rest .tags) (t .rest .blank)) kind ss ≡ page tagged t kind ss
 unfolding page descriptor
 same-page tagged t kind [] = refl
 same-page tagged t kind (s ∷ ss) = refl
 
 same-pages : (tagged : Bool) (t : Tables) (rs : List Range) (ss : List Slot)
-    → pages tagged (stock (t .elements) (t .tags) (t .blank)) rs ss ≡ pages tagged t rs ss
+    → pages tagged (stock (t .elements) (t .rest .tags) (t .rest .blank)) rs ss ≡ pages tagged t rs ss
 unfolding pages
 same-pages tagged t [] ss = refl
 same-pages tagged t (r ∷ rs) ss = rw (same-page tagged t (r .kind) (keep (ofType (r .kind)) ss), same-pages tagged t rs ss)
 
 listing-is : (t : Tables) (block : List ℕ)
-    → listed (withTags block) (stock (t .elements) (t .tags) (t .blank)) (sorted (ranges (t .head))) (typeCode block) (word block 2) (word block 4) (triple block 7)
+    → listed (withTags block) (stock (t .elements) (t .rest .tags) (t .rest .blank)) (sorted (ranges (t .head))) (typeCode block) (word block 2) (word block 4) (triple block 7)
     ≡ listing (withTags block) t (triple block 7) (chosenBy t block)
 unfolding listing listed chosenBy pagesOf roster
 listing-is t block = rw (same-pages (withTags block) t (sorted (ranges (t .head))) (chosenBy t block))
@@ -81,41 +81,40 @@ listing-is t block = rw (same-pages (withTags block) t (sorted (ranges (t .head)
 -- ---- the ways out
 
 -- an outcome with other tables
-abbrev beside : List ℕ → List ℕ → Outcome → Outcome
-beside head elements o =
+abbrev leaving : Tables → Outcome → Outcome
+leaving t o =
     record {
       number = o .number;
       status = o .status;
       count = o .count;
       preventers = o .preventers;
       lowest = o .lowest;
-      head = head;
-      elements = elements;
+      tables = t;
       buffer = o .buffer;
     }
 
 -- a GOOD reply whose bytes have room, and one whose bytes have none
 module _ (t : Tables) (h : ℕ) (bytes entry exit : List ℕ) (r : Reply) (a : Answers bytes entry exit r) where
   abbrev Ended : List ℕ → Type 0
-  Ended head = ended r head (t .elements) exit ≡ outcome t entry (fits entry (Done GOOD bytes (Sense h 0 0 0 ∷ [])))
+  Ended head = ended r (lent head (t .elements) (t .rest)) exit ≡ outcome t entry (fits entry (Done GOOD bytes (Sense h 0 0 0 ∷ [])))
 
   good-ends : r .number ≡ 0 → Ended (sensed (t .head) h 0 0 0)
   unfolding fits outcome changes change inHead inElements when
   good-ends z = go (leb (length bytes) (length entry)) a
     where
-      go : (b : Bool) → ended r [] [] exit ≡ outcome (lent [] [] [] []) entry (when b (Done GOOD bytes []) (Number 5))
-          → ended r (sensed (t .head) h 0 0 0) (t .elements) exit ≡ outcome t entry (when b (Done GOOD bytes (Sense h 0 0 0 ∷ [])) (Number 5))
-      go true e = ap (beside (sensed (t .head) h 0 0 0) (t .elements)) e
+      go : (b : Bool) → ended r (lent [] [] bare) exit ≡ outcome (lent [] [] bare) entry (when b (Done GOOD bytes []) (Number 5))
+          → ended r (lent (sensed (t .head) h 0 0 0) (t .elements) (t .rest)) exit ≡ outcome t entry (when b (Done GOOD bytes (Sense h 0 0 0 ∷ [])) (Number 5))
+      go true e = ap (leaving (lent (sensed (t .head) h 0 0 0) (t .elements) (t .rest))) e
       go false e = let n = ap (λ (o : Outcome). o .number) e in absurd (omega arith)
 
   refused-ends : r .number ≢ 0 → Ended (t .head)
   unfolding fits outcome when
   refused-ends z = go (leb (length bytes) (length entry)) a
     where
-      go : (b : Bool) → ended r [] [] exit ≡ outcome (lent [] [] [] []) entry (when b (Done GOOD bytes []) (Number 5))
-          → ended r (t .head) (t .elements) exit ≡ outcome t entry (when b (Done GOOD bytes (Sense h 0 0 0 ∷ [])) (Number 5))
+      go : (b : Bool) → ended r (lent [] [] bare) exit ≡ outcome (lent [] [] bare) entry (when b (Done GOOD bytes []) (Number 5))
+          → ended r (lent (t .head) (t .elements) (t .rest)) exit ≡ outcome t entry (when b (Done GOOD bytes (Sense h 0 0 0 ∷ [])) (Number 5))
       go true e = absurd (z (ap (λ (o : Outcome). o .number) e))
-      go false e = ap (beside (t .head) (t .elements)) e
+      go false e = ap (leaving t) e
 
 -- the command: step 4, then the listing
 module _ (t : Tables) (host : ℕ) (block entry exit : List ℕ) (r : Reply) where
@@ -126,10 +125,10 @@ module _ (t : Tables) (host : ℕ) (block entry exit : List ℕ) (r : Reply) whe
   bytes = listing (withTags block) t (triple block 7) (chosenBy t block)
 
   abbrev Ends : List ℕ → Type 0
-  Ends head = ended r head (t .elements) exit ≡ outcome t entry (fits entry (readStatus t host block))
+  Ends head = ended r (lent head (t .elements) (t .rest)) exit ≡ outcome t entry (fits entry (readStatus t host block))
 
   pub ends-checked : (head : List ℕ) → test ≡ true → exit ≡ entry
-      → ended r head (t .elements) entry ≡ outcome t entry (check host 5 0x24 0x00) → Ends head
+      → ended r (lent head (t .elements) (t .rest)) entry ≡ outcome t entry (check host 5 0x24 0x00) → Ends head
   unfolding readStatus fits check
   ends-checked head m same e =
       rw (
@@ -139,7 +138,7 @@ module _ (t : Tables) (host : ℕ) (block entry exit : List ℕ) (r : Reply) whe
       ) e
 
   module _ (m : test ≡ false)
-      (a : Answers (listed (withTags block) (stock (t .elements) (t .tags) (t .blank)) (sorted (ranges (t .head))) (typeCode block) (word block 2) (word block 4) (triple block 7)) entry exit r) where
+      (a : Answers (listed (withTags block) (stock (t .elements) (t .rest .tags) (t .rest .blank)) (sorted (ranges (t .head))) (typeCode block) (word block 2) (word block 4) (triple block 7)) entry exit r) where
     passed : readStatus t host block ≡ Done GOOD bytes (Sense host 0 0 0 ∷ [])
     unfolding readStatus bytes
     passed = when-false test _ _ m

@@ -7,7 +7,7 @@ use lib.ListN.{length}
 use lib.Dec.{eqb}
 use Rattle.rules.specs.Choice.{when}
 use Rattle.rules.specs.Bytes.{word}
-use Rattle.rules.specs.Tables.{Tables, lent, elementAt}
+use Rattle.rules.specs.Tables.{Tables, lent, elementAt, bare}
 use Rattle.rules.specs.Roster.{Range, spread}
 use Rattle.rules.specs.Sound.{behind}
 use Rattle.rules.specs.Order.{outcome, fits, Done, GOOD}
@@ -98,4 +98,4 @@ pub record Listable (rs : List Range) (t : Tables) : Type 0 where
 
 -- what a GOOD reply with these bytes leaves of an answer buffer: house number 5 and nothing changed where they do not fit
 abbrev pub Answers : List ℕ → List ℕ → List ℕ → Reply → Type 0
-Answers bytes entry exit r = ended r [] [] exit ≡ outcome (lent [] [] [] []) entry (fits entry (Done GOOD bytes []))
+Answers bytes entry exit r = ended r (lent [] [] bare) exit ≡ outcome (lent [] [] bare) entry (fits entry (Done GOOD bytes []))

@@ -7,9 +7,8 @@ ghost use lib.ListN.{length, take};
 ghost use lib.Dec.{ltb};
 ghost use Rattle.rules.specs.Choice.{anyOf};
 ghost use Rattle.rules.specs.Bytes.{put};
-ghost use Rattle.rules.specs.Tables.{elementAt, hosts, lent};
-ghost use Rattle.rules.specs.Roster.{drive};
-ghost use Rattle.rules.specs.Sound.{sound};
+ghost use Rattle.rules.specs.Tables.{Rest, headSize, elementAt, hosts, lent};
+ghost use Rattle.rules.specs.Roster.{ranges, sorted, drive};
 ghost use Rattle.rules.specs.Order.{outcome, fits, stray};
 ghost use Rattle.rules.specs.Listing.{listMasks, typeCode, header, readStatus};
 ghost use Rattle.rules.proofs.Ascending.{Each, total};
@@ -338,7 +337,7 @@ fn query_of(block: &[u8]) -> Query
     }
 }
 
-// READ ELEMENT STATUS for sound tables, a host from 1 to 8 and a block of 12 bytes.
+// READ ELEMENT STATUS for tables that can be listed, as sound ones can, a host from 1 to 8 and a block of 12 bytes.
 pub fn read_element_status<'a>(
     head: &mut [u8],
     elements: &[u8],
@@ -348,10 +347,11 @@ pub fn read_element_status<'a>(
     block: &[u8],
     answer: &mut [u8],
 ) -> order::Reply
-    requires { ⌜ sound (lent (now head) (now elements) (now tags) (now blank)) ≡ true ⌝ }
+    requires { ⌜ headSize ≤ length (now head) ⌝ }
+    requires { ⌜ Listable (sorted (ranges (now head))) (stock (now elements) (now tags) (now blank)) ⌝ }
     requires { ⌜ (1 ≤ host) × (host ≤ hosts) ⌝ }
     requires { ⌜ length (now block) ≡ 12 ⌝ }
-    ensures { λ r. ⌜ ended r (now (head .exit)) (now (elements .entry)) (now (answer .exit)) ≡ outcome (lent (now (head .entry)) (now (elements .entry)) (now (tags .entry)) (now (blank .entry))) (now (answer .entry)) (fits (now (answer .entry)) (readStatus (lent (now (head .entry)) (now (elements .entry)) (now (tags .entry)) (now (blank .entry))) host (now (block .entry)))) ⌝ }
+    ensures { λ r. ⌜ ((rest : Rest) → rest .tags ≡ now (tags .entry) → rest .blank ≡ now (blank .entry) → ended r (lent (now (head .exit)) (now (elements .entry)) rest) (now (answer .exit)) ≡ outcome (lent (now (head .entry)) (now (elements .entry)) rest) (now (answer .entry)) (fits (now (answer .entry)) (readStatus (lent (now (head .entry)) (now (elements .entry)) rest) host (now (block .entry))))) ⌝ }
 {
     if malformed(block) {
         return order::check(head, host, 5, 0x24, 0x00);

@@ -4,7 +4,7 @@ use mathlib.Core.Path.{_≡_, ap, _∙_}
 use mathlib.Core.List.{List, []}
 use lib.ListN.{length}
 use Rattle.rules.specs.Bytes.{word}
-use Rattle.rules.specs.Tables.{lent, volume, filled, inHead, inElements, change, changes}
+use Rattle.rules.specs.Tables.{lent, volume, filled, inHead, inElements, change, changes, Rest}
 use Rattle.rules.specs.Roster.{roster, ranges, firstTransport}
 use Rattle.rules.specs.Order.{outcome, good}
 use Rattle.rules.specs.Moves.{move, exchange}
@@ -28,17 +28,17 @@ swapped-by es es1 es2 es3 es4 p q r a b v w x y z z′ u u′ = cc
 
 -- ---- the ways out of what was judged
 
-module _ (head head1 es es1 block tags blank buffer : List ℕ) (h : ℕ) (r : Reply)
-    (cleared : ((elements tags blank buffer : List ℕ) → ended r head1 elements buffer ≡ outcome (lent head elements tags blank) buffer (good h []))) where
+module _ (head head1 es es1 block : List ℕ) (rest : Rest) (buffer : List ℕ) (h : ℕ) (r : Reply)
+    (cleared : ((elements : List ℕ) (rest : Rest) (buffer : List ℕ) → ended r (lent head1 elements rest) buffer ≡ outcome (lent head elements rest) buffer (good h []))) where
   pub moved-ends : (p q x : ℕ) → x ≡ word block 4 → es1 ≡ carried es p q x
-      → ended r head1 es1 buffer ≡ outcome (lent head es tags blank) buffer (meaning h es block (Move p q))
+      → ended r (lent head1 es1 rest) buffer ≡ outcome (lent head es rest) buffer (meaning h es block (Move p q))
   unfolding meaning good outcome changes change inHead inElements carried
-  moved-ends p q x e f = cc (cleared es1 tags blank buffer)
+  moved-ends p q x e f = cc (cleared es1 rest buffer)
 
   pub exchanged-ends : (p q s x y : ℕ) → x ≡ word block 4 → y ≡ word block 6 → es1 ≡ swapped es p q s x y
-      → ended r head1 es1 buffer ≡ outcome (lent head es tags blank) buffer (meaning h es block (Exchange p q s))
+      → ended r (lent head1 es1 rest) buffer ≡ outcome (lent head es rest) buffer (meaning h es block (Exchange p q s))
   unfolding meaning good outcome changes change inHead inElements swapped
-  exchanged-ends p q s x y e e′ f = cc (cleared es1 tags blank buffer)
+  exchanged-ends p q s x y e e′ f = cc (cleared es1 rest buffer)
 
 -- the ranges as the code hands them about make the head's roster
 pub roster-is : (head : List ℕ) (rs : List Range) → meant rs ≡ ranges head → rosterOf rs ≡ roster head
@@ -49,10 +49,10 @@ pub records-are : (head : List ℕ) (rs : List Range) (n : ℕ) → meant rs ≡
 records-are head rs n e f = ap length (roster-is head rs e) ∙ f
 
 -- what was judged over the ranges and the lowest transport of the head
-module _ (head es block tags blank : List ℕ) (h lowest : ℕ) (rs : List Range) (ruling : Ruling) (ranges-are : meant rs ≡ ranges head)
+module _ (head es block : List ℕ) (rest : Rest) (h lowest : ℕ) (rs : List Range) (ruling : Ruling) (ranges-are : meant rs ≡ ranges head)
     (lowest-is : lowest ≡ firstTransport (roster head)) where
-  pub move-judged : ruling ≡ moveBy (rosterOf rs) lowest es h block → meaning h es block ruling ≡ move (lent head es tags blank) h block
-  move-judged e = cc (roster-is head rs ranges-are, move-means (lent head es tags blank) h block)
+  pub move-judged : ruling ≡ moveBy (rosterOf rs) lowest es h block → meaning h es block ruling ≡ move (lent head es rest) h block
+  move-judged e = cc (roster-is head rs ranges-are, move-means (lent head es rest) h block)
 
-  pub exchange-judged : ruling ≡ exchangeBy (rosterOf rs) lowest es h block → meaning h es block ruling ≡ exchange (lent head es tags blank) h block
-  exchange-judged e = cc (roster-is head rs ranges-are, exchange-means (lent head es tags blank) h block)
+  pub exchange-judged : ruling ≡ exchangeBy (rosterOf rs) lowest es h block → meaning h es block ruling ≡ exchange (lent head es rest) h block
+  exchange-judged e = cc (roster-is head rs ranges-are, exchange-means (lent head es rest) h block)

@@ -6,7 +6,7 @@ ghost use mathlib.Core.Path.{_≡_};
 ghost use mathlib.Core.List.{List};
 ghost use Prim.Native.Nat.{ℕ, _+_, _<_, _≤_};
 ghost use lib.ListN.{length};
-ghost use Rattle.rules.specs.Tables.{headSize, hosts, elementSize, elementAt, places, holder, lent};
+ghost use Rattle.rules.specs.Tables.{headSize, hosts, elementSize, elementAt, places, holder, lent, Rest};
 ghost use Rattle.rules.specs.Order.{other, outcome};
 ghost use Rattle.rules.specs.Moves.{move as moveVerdict, exchange as exchangeVerdict};
 ghost use Rattle.order.specs.Ending.{ended};
@@ -267,7 +267,7 @@ fn settle(head: &mut [u8], elements: &mut [u8], host: u8, block: &[u8], ruling: 
     requires { ⌜ host ≤ hosts ⌝ }
     requires { ⌜ length (now block) ≡ 12 ⌝ }
     requires { ⌜ Within (places (now elements)) ruling ⌝ }
-    ensures { λ r. ⌜ ((tags blank buffer : List ℕ) → ended r (now (head .exit)) (now (elements .exit)) buffer ≡ outcome (lent (now (head .entry)) (now (elements .entry)) tags blank) buffer (meaning host (now (elements .entry)) (now (block .entry)) ruling)) ⌝ }
+    ensures { λ r. ⌜ ((rest : Rest) (buffer : List ℕ) → ended r (lent (now (head .exit)) (now (elements .exit)) rest) buffer ≡ outcome (lent (now (head .entry)) (now (elements .entry)) rest) buffer (meaning host (now (elements .entry)) (now (block .entry)) ruling)) ⌝ }
 {
     match ruling {
         Ruling::Move { from, to } => {
@@ -303,7 +303,7 @@ pub fn move_medium(head: &mut [u8], elements: &mut [u8], host: u8, block: &[u8])
     requires { ⌜ Ready (now head) (now elements) ⌝ }
     requires { ⌜ host ≤ hosts ⌝ }
     requires { ⌜ length (now block) ≡ 12 ⌝ }
-    ensures { λ r. ⌜ ((tags blank buffer : List ℕ) → ended r (now (head .exit)) (now (elements .exit)) buffer ≡ outcome (lent (now (head .entry)) (now (elements .entry)) tags blank) buffer (moveVerdict (lent (now (head .entry)) (now (elements .entry)) tags blank) host (now (block .entry)))) ⌝ }
+    ensures { λ r. ⌜ ((rest : Rest) (buffer : List ℕ) → ended r (lent (now (head .exit)) (now (elements .exit)) rest) buffer ≡ outcome (lent (now (head .entry)) (now (elements .entry)) rest) buffer (moveVerdict (lent (now (head .entry)) (now (elements .entry)) rest) host (now (block .entry)))) ⌝ }
 {
     let rs = tables::ranges(head);
     let lowest = tables::first_transport(head);
@@ -316,7 +316,7 @@ pub fn exchange_medium(head: &mut [u8], elements: &mut [u8], host: u8, block: &[
     requires { ⌜ Ready (now head) (now elements) ⌝ }
     requires { ⌜ host ≤ hosts ⌝ }
     requires { ⌜ length (now block) ≡ 12 ⌝ }
-    ensures { λ r. ⌜ ((tags blank buffer : List ℕ) → ended r (now (head .exit)) (now (elements .exit)) buffer ≡ outcome (lent (now (head .entry)) (now (elements .entry)) tags blank) buffer (exchangeVerdict (lent (now (head .entry)) (now (elements .entry)) tags blank) host (now (block .entry)))) ⌝ }
+    ensures { λ r. ⌜ ((rest : Rest) (buffer : List ℕ) → ended r (lent (now (head .exit)) (now (elements .exit)) rest) buffer ≡ outcome (lent (now (head .entry)) (now (elements .entry)) rest) buffer (exchangeVerdict (lent (now (head .entry)) (now (elements .entry)) rest) host (now (block .entry)))) ⌝ }
 {
     let rs = tables::ranges(head);
     let lowest = tables::first_transport(head);

@@ -3,25 +3,25 @@ use Prim.Native.Nat.{ℕ}
 use mathlib.Core.Path.{_≡_}
 use mathlib.Core.List.{List, [], _∷_}
 use Rattle.rules.specs.Bytes.{put}
-use Rattle.rules.specs.Tables.{lent, Sense, sensed, inHead, inElements, change, changes}
+use Rattle.rules.specs.Tables.{lent, Sense, sensed, inHead, inElements, change, changes, Rest}
 use Rattle.rules.specs.Order.{Done, outcome, good, check, conflict}
 use Rattle.order.specs.declared.Reply.{Reply}
 use Rattle.order.specs.Ending.{ended, told}
 
-module _ (before head : List ℕ) (h k a q : ℕ) (r : Reply) (noted : head ≡ sensed before h k a q) (elements tags blank buffer : List ℕ) where
-  noted-ends : (status : ℕ) → r ≡ told status 0 → ended r head elements buffer ≡ outcome (lent before elements tags blank) buffer (Done status [] (Sense h k a q ∷ []))
+module _ (before head : List ℕ) (h k a q : ℕ) (r : Reply) (noted : head ≡ sensed before h k a q) (elements : List ℕ) (rest : Rest) (buffer : List ℕ) where
+  noted-ends : (status : ℕ) → r ≡ told status 0 → ended r (lent head elements rest) buffer ≡ outcome (lent before elements rest) buffer (Done status [] (Sense h k a q ∷ []))
   unfolding outcome changes change inHead inElements put
   noted-ends status e = rw (e, noted)
 
-  pub check-ends : r ≡ told 0x02 0 → ended r head elements buffer ≡ outcome (lent before elements tags blank) buffer (check h k a q)
+  pub check-ends : r ≡ told 0x02 0 → ended r (lent head elements rest) buffer ≡ outcome (lent before elements rest) buffer (check h k a q)
   unfolding check
   check-ends e = noted-ends 0x02 e
 
-module _ (before head : List ℕ) (h : ℕ) (r : Reply) (noted : head ≡ sensed before h 0 0 0) (elements tags blank buffer : List ℕ) where
-  pub good-ends : r ≡ told 0x00 0 → ended r head elements buffer ≡ outcome (lent before elements tags blank) buffer (good h [])
+module _ (before head : List ℕ) (h : ℕ) (r : Reply) (noted : head ≡ sensed before h 0 0 0) (elements : List ℕ) (rest : Rest) (buffer : List ℕ) where
+  pub good-ends : r ≡ told 0x00 0 → ended r (lent head elements rest) buffer ≡ outcome (lent before elements rest) buffer (good h [])
   unfolding good
-  good-ends e = noted-ends before head h 0 0 0 r noted elements tags blank buffer 0x00 e
+  good-ends e = noted-ends before head h 0 0 0 r noted elements rest buffer 0x00 e
 
-  pub conflict-ends : r ≡ told 0x18 0 → ended r head elements buffer ≡ outcome (lent before elements tags blank) buffer (conflict h)
+  pub conflict-ends : r ≡ told 0x18 0 → ended r (lent head elements rest) buffer ≡ outcome (lent before elements rest) buffer (conflict h)
   unfolding conflict
-  conflict-ends e = noted-ends before head h 0 0 0 r noted elements tags blank buffer 0x18 e
+  conflict-ends e = noted-ends before head h 0 0 0 r noted elements rest buffer 0x18 e

@@ -1,20 +1,20 @@
 -- What the core hands back, as an outcome of the rules. Assumes nothing.
 use Prim.Native.Nat.{ℕ}
 use mathlib.Core.List.{List}
+use Rattle.rules.specs.Tables.{Tables}
 use Rattle.rules.specs.Order.{Outcome}
 use Rattle.order.specs.declared.Reply.{Reply}
 
 -- the reply, with the tables and the buffer as they then are
-abbrev pub ended : Reply → List ℕ → List ℕ → List ℕ → Outcome
-ended r head elements buffer =
+abbrev pub ended : Reply → Tables → List ℕ → Outcome
+ended r t buffer =
     record {
       number = r .number;
       status = r .status;
       count = r .count;
       preventers = r .preventers;
       lowest = r .lowest;
-      head = head;
-      elements = elements;
+      tables = t;
       buffer = buffer;
     }
 

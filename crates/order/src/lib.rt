@@ -3,7 +3,7 @@ ghost use mathlib.Core.Path.{_≡_};
 ghost use mathlib.Core.List.{List, []};
 ghost use Prim.Native.Nat.{ℕ, _+_, _≤_};
 ghost use lib.ListN.{length};
-ghost use Rattle.rules.specs.Tables.{headSize, hosts, lent};
+ghost use Rattle.rules.specs.Tables.{headSize, hosts, lent, Rest};
 ghost use Rattle.rules.specs.Order.{outcome, other as otherThan, good as goodVerdict, check as checkVerdict, conflict as conflictVerdict, stray as strayIn};
 ghost use Rattle.order.specs.Ending.{ended, numbered as numberedOf, told as toldOf};
 
@@ -73,7 +73,7 @@ pub fn stray(block: &[u8], masks: &[u8]) -> bool
 pub fn good(head: &mut [u8], host: u8) -> Reply
     requires { ⌜ headSize ≤ length (now head) ⌝ }
     requires { ⌜ host ≤ hosts ⌝ }
-    ensures { λ r. ⌜ ((elements tags blank buffer : List ℕ) → ended r (now (head .exit)) elements buffer ≡ outcome (lent (now (head .entry)) elements tags blank) buffer (goodVerdict host [])) ⌝ }
+    ensures { λ r. ⌜ ((elements : List ℕ) (rest : Rest) (buffer : List ℕ) → ended r (lent (now (head .exit)) elements rest) buffer ≡ outcome (lent (now (head .entry)) elements rest) buffer (goodVerdict host [])) ⌝ }
 {
     tables::head::wipe(head, host);
     told(0x00, 0)
@@ -83,7 +83,7 @@ pub fn good(head: &mut [u8], host: u8) -> Reply
 pub fn check(head: &mut [u8], host: u8, key: u8, asc: u8, ascq: u8) -> Reply
     requires { ⌜ headSize ≤ length (now head) ⌝ }
     requires { ⌜ host ≤ hosts ⌝ }
-    ensures { λ r. ⌜ ((elements tags blank buffer : List ℕ) → ended r (now (head .exit)) elements buffer ≡ outcome (lent (now (head .entry)) elements tags blank) buffer (checkVerdict host key asc ascq)) ⌝ }
+    ensures { λ r. ⌜ ((elements : List ℕ) (rest : Rest) (buffer : List ℕ) → ended r (lent (now (head .exit)) elements rest) buffer ≡ outcome (lent (now (head .entry)) elements rest) buffer (checkVerdict host key asc ascq)) ⌝ }
 {
     tables::head::note(head, host, key, asc, ascq);
     told(0x02, 0)
@@ -93,7 +93,7 @@ pub fn check(head: &mut [u8], host: u8, key: u8, asc: u8, ascq: u8) -> Reply
 pub fn conflict(head: &mut [u8], host: u8) -> Reply
     requires { ⌜ headSize ≤ length (now head) ⌝ }
     requires { ⌜ host ≤ hosts ⌝ }
-    ensures { λ r. ⌜ ((elements tags blank buffer : List ℕ) → ended r (now (head .exit)) elements buffer ≡ outcome (lent (now (head .entry)) elements tags blank) buffer (conflictVerdict host)) ⌝ }
+    ensures { λ r. ⌜ ((elements : List ℕ) (rest : Rest) (buffer : List ℕ) → ended r (lent (now (head .exit)) elements rest) buffer ≡ outcome (lent (now (head .entry)) elements rest) buffer (conflictVerdict host)) ⌝ }
 {
     tables::head::wipe(head, host);
     told(0x18, 0)

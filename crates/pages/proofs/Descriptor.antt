@@ -27,7 +27,7 @@ pub descriptor-length : (tagged : Bool) (t : Tables) (s : Slot) → Labelled t �
     → length (descriptor tagged t s) ≡ width tagged
 unfolding descriptor front width when
 descriptor-length true t s ok h =
-    let n = label-length (t .tags) (t .blank) (volume (t .elements) (s .place)) (ok .blank) (ok .volumes (s .place) h) in
+    let n = label-length (t .rest .tags) (t .rest .blank) (volume (t .elements) (s .place)) (ok .blank) (ok .volumes (s .place) h) in
     simp length-append (omega arith)
 descriptor-length false t s ok h = refl
 

@@ -6,18 +6,18 @@ use mathlib.Core.Bool.{Bool}
 use lib.ListN.{length}
 use lib.Dec.{eqb}
 use Rattle.rules.specs.Choice.{when}
-use Rattle.rules.specs.Tables.{Tables, lent, elementAt, elementSize, tagSize, volume}
+use Rattle.rules.specs.Tables.{Tables, lent, labels, elementAt, elementSize, tagSize, volume}
 use Rattle.rules.specs.Roster.{Slot, slots}
 use Rattle.rules.specs.Listing.{descriptor, width, pageHeader, joined}
 
 -- the tables that a descriptor shows: all but the head
 abbrev pub stock : List ℕ → List ℕ → List ℕ → Tables
-stock elements tags blank = lent [] elements tags blank
+stock elements tags blank = lent [] elements (labels tags blank)
 
 -- what the labels of a stock need: a blank label of full length, and a record for each volume number that stands in the element table
 pub record Labelled (t : Tables) : Type 0 where
-  pub blank : length (t .blank) ≡ tagSize
-  pub volumes : (p : ℕ) → elementAt p + elementSize ≤ length (t .elements) → tagSize * volume (t .elements) p ≤ length (t .tags)
+  pub blank : length (t .rest .blank) ≡ tagSize
+  pub volumes : (p : ℕ) → elementAt p + elementSize ≤ length (t .elements) → tagSize * volume (t .elements) p ≤ length (t .rest .tags)
 
 -- an element, in numbers
 abbrev pub slot : ℕ → ℕ → ℕ → Slot

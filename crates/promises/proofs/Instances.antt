@@ -12,7 +12,7 @@ use Rattle.rules.specs.Tables.{Tables}
 use Rattle.rules.specs.Sound.{sound}
 use Rattle.rules.specs.Order.{Outcome, GOOD, CHECK-CONDITION, RESERVATION-CONFLICT}
 use Rattle.rules.specs.Command.{Request, Call, Command, Import, Export, serve}
-use Rattle.rules.specs.Histories.{next, leaves, History, begun, called, imports, exports, Reply, runRequests, replies, Mixing, none, left, right, named, From, end, more, Apart}
+use Rattle.rules.specs.Histories.{next, History, begun, called, imports, exports, Reply, runRequests, replies, Mixing, none, left, right, named, From, end, more, Apart}
 use Rattle.rules.specs.Small.{element, empty, loaded, elementsOf, library, quietHead, small, moveBlock, readBlock, asks, lentBuffer, refuses}
 use Rattle.rules.specs.Cases.{Case, numbers, eventNumbers, twice, laden, locked}
 use Rattle.rules.proofs.Ladder.{differ-true}
@@ -221,16 +221,16 @@ each-moved m = each-mixing m .tables ∙ all-moved
 -- the history that the rules themselves make
 passes : Tables → List Call → Tables
 passes t [] = t
-passes t (c ∷ cs) = passes (leaves (serve t c) t) cs
+passes t (c ∷ cs) = passes (serve t c .tables) cs
 
 gives : Tables → List Call → List Outcome
 gives t [] = []
-gives t (c ∷ cs) = serve t c ∷ gives (leaves (serve t c) t) cs
+gives t (c ∷ cs) = serve t c ∷ gives (serve t c .tables) cs
 
 history : (t : Tables) (cs : List Call) → History t cs (gives t cs) (passes t cs)
 unfolding passes gives
 history t [] = begun
-history t (c ∷ cs) = called refl (history (leaves (serve t c) t) cs)
+history t (c ∷ cs) = called refl (history (serve t c .tables) cs)
 
 -- volume 3 comes in and goes to a shelf, volume 1 goes out; host 1 is told of the import in between
 day : List Call

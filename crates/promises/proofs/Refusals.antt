@@ -15,7 +15,7 @@ pub by-number : ByNumber
 unfolding serve
 by-number t c n =
     let u = number-untouched t (bufferOf c) (verdict t c) n in
-    record { head-is = u .head-is; elements-is = u .elements-is; buffer-is = u .buffer-is; status-is = u .status-is; count-is = u .count-is }
+    record { tables-is = u .tables-is; buffer-is = u .buffer-is; status-is = u .status-is; count-is = u .count-is }
 
 pub seven-alone : SevenAlone
 unfolding serve
@@ -32,7 +32,7 @@ three-statuses t Reset = inl (event-quiet t Reset tt .0)
 pub by-status : ByStatus
 by-status t r n =
     let o = status-own t r n in
-    record { elements-is = o .elements-is; head-length = o .head-length; head-else = o .head-else; buffer-is = o .buffer-is; count-is = o .count-is }
+    record { elements-is = o .elements-is; rest-is = o .rest-is; head-length = o .head-length; head-else = o .head-else; buffer-is = o .buffer-is; count-is = o .count-is }
 
 -- an event returns nothing
 none : (t : Tables) (c : Call) → Event c → serve t c .count ≤ length (bufferOf c)

@@ -12,8 +12,7 @@ use Rattle.rules.specs.Command.{Request, Call, Command, Import, Export, Reset, 
 
 -- "Any other [than 0] leaves all tables and the answer buffer untouched; status and count are then 0"
 pub record Untouched (t : Tables) (c : Call) (o : Outcome) : Type 0 where
-  pub head-is : o .head ≡ t .head
-  pub elements-is : o .elements ≡ t .elements
+  pub tables-is : o .tables ≡ t
   pub buffer-is : o .buffer ≡ bufferOf c
   pub status-is : o .status ≡ 0
   pub count-is : o .count ≡ 0
@@ -35,9 +34,10 @@ ThreeStatuses =
 
 -- the host's own five bytes of the head may change (sense and attention), and nothing else
 pub record OwnBytesAlone (t : Tables) (r : Request) (o : Outcome) : Type 0 where
-  pub elements-is : o .elements ≡ t .elements
-  pub head-length : length (o .head) ≡ length (t .head)
-  pub head-else : (j : ℕ) → (hostAt (r .host) ≤ j → j < hostAt (1 + r .host) → ⊥) → byte (o .head) j ≡ byte (t .head) j
+  pub elements-is : o .tables .elements ≡ t .elements
+  pub rest-is : o .tables .rest ≡ t .rest
+  pub head-length : length (o .tables .head) ≡ length (t .head)
+  pub head-else : (j : ℕ) → (hostAt (r .host) ≤ j → j < hostAt (1 + r .host) → ⊥) → byte (o .tables .head) j ≡ byte (t .head) j
   pub buffer-is : o .buffer ≡ r .buffer
   pub count-is : o .count ≡ 0
 

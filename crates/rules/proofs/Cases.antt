@@ -9,14 +9,15 @@ use borrow.Author.Tests.{eqb-true}
 use Rattle.rules.proofs.Ladder.{all-first, all-rest}
 use Rattle.rules.proofs.Opened.{opened}
 use Rattle.rules.specs.Choice.{when}
+use Rattle.rules.specs.Tables.{Rest, lent, others}
 use Rattle.rules.specs.Order.{Outcome}
 use Rattle.rules.specs.Command.{serve}
 use Rattle.rules.specs.Small.{ends, checks, refuses}
-use Rattle.rules.specs.Cases.{Case, Name, moves, exchanges, whole12, read12, cuts, tagged, labelled, wholeAll, readAll, failedReserve, ownSense, importAfterReset, shipped, twice, laden, locked, numbers, eventNumbers, stepCases, holdCases, eventCases, cases, same, sameOutcome, wrong}
+use Rattle.rules.specs.Cases.{Case, Name, moves, exchanges, whole12, read12, cuts, tagged, labelled, wholeAll, readAll, failedReserve, ownSense, importAfterReset, shipped, twice, laden, locked, numbers, eventNumbers, stepCases, holdCases, eventCases, cases, same, sameRest, sameOutcome, wrong}
 
 -- `wrong` with every definition open. The table is computed in parts that are small enough for an error to name the row.
 tested : List Case → List Name
-unfolding opened ends checks refuses moves exchanges whole12 read12 cuts tagged labelled wholeAll readAll failedReserve ownSense importAfterReset shipped twice laden locked numbers eventNumbers stepCases holdCases eventCases cases same sameOutcome wrong
+unfolding opened ends checks refuses moves exchanges whole12 read12 cuts tagged labelled wholeAll readAll failedReserve ownSense importAfterReset shipped twice laden locked numbers eventNumbers stepCases holdCases eventCases cases same sameRest sameOutcome wrong
 tested cs = wrong cs
 
 moves-computed : tested moves ≡ []
@@ -73,9 +74,16 @@ same-true (x ∷ xs) (y ∷ ys) e = go (same-true xs ys) (eqb x y) refl e
     go ih false t d = cc
 
 outcome-is : {o p : Outcome} → o .number ≡ p .number → o .status ≡ p .status → o .count ≡ p .count → o .preventers ≡ p .preventers
-    → o .lowest ≡ p .lowest → o .head ≡ p .head → o .elements ≡ p .elements → o .buffer ≡ p .buffer → o ≡ p
-outcome-is a b c d e f g h =
-    λ i. record { number = a i; status = b i; count = c i; preventers = d i; lowest = e i; head = f i; elements = g i; buffer = h i }
+    → o .lowest ≡ p .lowest → o .tables .head ≡ p .tables .head → o .tables .elements ≡ p .tables .elements → o .tables .rest ≡ p .tables .rest → o .buffer ≡ p .buffer → o ≡ p
+outcome-is a b c d e f g r h =
+    λ i. record { number = a i; status = b i; count = c i; preventers = d i; lowest = e i; tables = lent (f i) (g i) (r i); buffer = h i }
+
+same-rest : (r s : Rest) → sameRest r s ≡ true → r ≡ s
+unfolding sameRest
+same-rest r s e =
+    let tags : r .tags ≡ s .tags = same-true _ _ (all-first _ _ e) in
+    let blank : r .blank ≡ s .blank = same-true _ _ (all-first _ _ (all-rest _ _ e)) in
+    λ i. others (tags i) (blank i)
 
 same-outcome : (o p : Outcome) → sameOutcome o p ≡ true → o ≡ p
 unfolding sameOutcome
@@ -87,15 +95,17 @@ same-outcome o p e =
     let e₅ = all-rest _ _ e₄ in
     let e₆ = all-rest _ _ e₅ in
     let e₇ = all-rest _ _ e₆ in
+    let e₈ = all-rest _ _ e₇ in
     let number : o .number ≡ p .number = eqb-true _ _ (all-first _ _ e) in
     let status : o .status ≡ p .status = eqb-true _ _ (all-first _ _ e₁) in
     let count : o .count ≡ p .count = eqb-true _ _ (all-first _ _ e₂) in
     let preventers : o .preventers ≡ p .preventers = eqb-true _ _ (all-first _ _ e₃) in
     let lowest : o .lowest ≡ p .lowest = eqb-true _ _ (all-first _ _ e₄) in
-    let head : o .head ≡ p .head = same-true _ _ (all-first _ _ e₅) in
-    let elements : o .elements ≡ p .elements = same-true _ _ (all-first _ _ e₆) in
-    let buffer : o .buffer ≡ p .buffer = same-true _ _ (all-first _ _ e₇) in
-    outcome-is number status count preventers lowest head elements buffer
+    let head : o .tables .head ≡ p .tables .head = same-true _ _ (all-first _ _ e₅) in
+    let elements : o .tables .elements ≡ p .tables .elements = same-true _ _ (all-first _ _ e₆) in
+    let rest : o .tables .rest ≡ p .tables .rest = same-rest _ _ (all-first _ _ e₇) in
+    let buffer : o .buffer ≡ p .buffer = same-true _ _ (all-first _ _ e₈) in
+    outcome-is number status count preventers lowest head elements rest buffer
 
 -- the row holds
 abbrev pub Holds : Case → Type 0

@@ -52,7 +52,7 @@ Keeps ss h N (Done status bytes cs) = AllMine ss h N cs
 head-same : (h : ℕ) (T N : List ℕ) (t : Tables) (head′ : List ℕ)
     → ((j : ℕ) → j ≤ unitAt → byte head′ j ≡ byte (t .head) j)
     → ((j : ℕ) → hostAt h ≤ j → j < hostAt (1 + h) → byte head′ j ≡ byte (t .head) j)
-    → Same h T N t (lent head′ (t .elements) (t .tags) (t .blank))
+    → Same h T N t (lent head′ (t .elements) (t .rest))
 unfolding unit key asc ascq attention attentionq heldByOther volumeOf
 head-same h T N t head′ front own =
     let r : roster head′ ≡ roster (t .head) = roster-same (t .head) head′ (λ j l. front j (omega arith)) in
@@ -69,7 +69,7 @@ head-same h T N t head′ front own =
     }
 
 fill-same : (h : ℕ) (T N : List ℕ) (t : Tables) (p v s m : ℕ) → ((a : ℕ) → List·Memᴰ a N → placeOf (roster (t .head)) a ≢ p)
-    → Same h T N t (lent (t .head) (filled (t .elements) p v s m) (t .tags) (t .blank))
+    → Same h T N t (lent (t .head) (filled (t .elements) p v s m) (t .rest))
 unfolding heldByOther volumeOf
 fill-same h T N t p v s m d =
     record {

@@ -23,7 +23,7 @@ Fit t (Announce a q) = AttentionFits a q
 Fit t (HoldUnit n) = (n ≤ hosts) × ((p : ℕ) → p < length (roster (t .head)) → n ≢ 0 → holder (t .elements) p ≢ 0 → holder (t .elements) p ≡ n)
 Fit t (Prevent m) = Unit {0}
 Fit t (Fill p v s m) =
-    (p < length (roster (t .head))) × StockFits (volumes (t .tags)) (roster (t .head)) (kindAt (roster (t .head)) p) v s m
+    (p < length (roster (t .head))) × StockFits (volumes (t .rest .tags)) (roster (t .head)) (kindAt (roster (t .head)) p) v s m
     × (v ≢ 0 → (q : ℕ) → q < length (roster (t .head)) → q ≢ p → volume (t .elements) q ≢ v)
 Fit t (Hold p n h i) = HoldFits (unit (t .head)) h i
 Fit t (Free w) = Unit {0}
@@ -49,18 +49,18 @@ unit-kept head head′ e = e
 
 -- tables with another head, of the same ranges
 head-sound : (t : Tables) (head′ : List ℕ) → Sound t → HeadFits head′ → SameRanges (t .head) head′ → byte head′ unitAt ≡ byte (t .head) unitAt
-    → Sound (lent head′ (t .elements) (t .tags) (t .blank))
+    → Sound (lent head′ (t .elements) (t .rest))
 head-sound t head′ s f r u =
     record {
       head-fits = f;
-      labels-fit = s .labels-fit;
+      rest-fits = s .rest-fits;
       elements-fit = rw (roster-same (t .head) head′ r, unit-kept (t .head) head′ u) (s .elements-fit);
     }
 
 -- tables with other elements
-pub elements-sound : (t : Tables) (es : List ℕ) → Sound t → ElementsFit (roster (t .head)) (unit (t .head)) (volumes (t .tags)) es
-    → Sound (lent (t .head) es (t .tags) (t .blank))
-elements-sound t es s f = record { head-fits = s .head-fits; labels-fit = s .labels-fit; elements-fit = f }
+pub elements-sound : (t : Tables) (es : List ℕ) → Sound t → ElementsFit (roster (t .head)) (unit (t .head)) (volumes (t .rest .tags)) es
+    → Sound (lent (t .head) es (t .rest))
+elements-sound t es s f = record { head-fits = s .head-fits; rest-fits = s .rest-fits; elements-fit = f }
 
 pub change-sound : (c : Change) (t : Tables) → Fit t c → Sound t → Sound (change c t)
 unfolding change inHead inElements
@@ -76,7 +76,7 @@ change-sound (Announce a q) t x s =
 change-sound (HoldUnit n) t (l, own) s =
     record {
       head-fits = unitHeld-fits (t .head) n (s .head-fits) l;
-      labels-fit = s .labels-fit;
+      rest-fits = s .rest-fits;
       elements-fit =
           rw (roster-same (t .head) _ (ranges-kept (HoldUnit n) t (l, own)), unitHeld-unit (t .head) n (omega (arith, s .head-fits .length-is)))
           (unit-fits _ _ _ _ (s .elements-fit) n own);

@@ -93,10 +93,10 @@ module _ (t : Tables) (s : Sound t) (h : ℕ) (l : 1 ≤ h) (m : h ≤ hosts) wh
 
   -- ---- MOVE and EXCHANGE: the elements change, and the host's sense is cleared
 
-  stood : (es : List ℕ) → ElementsFit (roster (t .head)) (unit (t .head)) (volumes (t .tags)) es
-      → Sound (lent (sensed (t .head) h 0 0 0) es (t .tags) (t .blank))
+  stood : (es : List ℕ) → ElementsFit (roster (t .head)) (unit (t .head)) (volumes (t .rest .tags)) es
+      → Sound (lent (sensed (t .head) h 0 0 0) es (t .rest))
   unfolding change inHead inElements
-  stood es f = change-sound (Sense h 0 0 0) (lent (t .head) es (t .tags) (t .blank)) (l, m, no-sense) (elements-sound t es s f)
+  stood es f = change-sound (Sense h 0 0 0) (lent (t .head) es (t .rest)) (l, m, no-sense) (elements-sound t es s f)
 
   stands : (a : ℕ) → noPlace t a ≡ false → Stands (roster (t .head)) a
   unfolding noPlace

@@ -54,7 +54,7 @@ module _ (t : Tables) (s : Sound t) where
           let known : kindOf (roster (t .head)) a ≢ 0 = omega arith in
           let absent = any-nowhere (λ p. eqb (volume (t .elements) p) v) (places (t .elements)) 0 (any-first _ _ (any-rest _ _ e₁)) in (
             place-in (roster (t .head)) a known,
-            imported-fits (volumes (t .tags)) (roster (t .head)) _ v (kind-in (roster (t .head)) a known ∙ k) (eqb-false v 0 (any-first _ _ e)) (ltb-false _ _ (any-first _ _ e₁)),
+            imported-fits (volumes (t .rest .tags)) (roster (t .head)) _ v (kind-in (roster (t .head)) a known ∙ k) (eqb-false v 0 (any-first _ _ e)) (ltb-false _ _ (any-first _ _ e₁)),
             λ _ q i _. eqb-false _ _ (absent q (omega arith) (omega (arith, places-is t s))),
           )
 

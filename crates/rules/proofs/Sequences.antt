@@ -1,35 +1,40 @@
 -- Any sequence of calls ends where the rules, one by one, end; sound tables stay sound all along it. Assumes nothing.
-use Prim.Native.Nat.{ℕ}
-use mathlib.Core.Path.{_≡_, refl, sym, ap₂}
+use mathlib.Core.Path.{_≡_, refl}
 use mathlib.Core.Logic.{_≢_, ⊎-elim}
 use mathlib.Core.Bool.{true}
 use mathlib.Core.List.{List, [], _∷_, List·Memᴰ, List·Memᴰ·not-nil, List·Memᴰ·cases-cons}
-use Rattle.rules.specs.Tables.{Tables, lent, Change, change, changes}
+use Rattle.rules.specs.Tables.{Tables, Change, change, changes}
 use Rattle.rules.specs.Sound.{sound}
 use Rattle.rules.specs.Order.{Verdict, Number, Prevented, Done, Outcome, outcome, after}
 use Rattle.rules.specs.Command.{Call, verdict, bufferOf, serve}
-use Rattle.rules.specs.Histories.{next, run, outcomes, leaves, History, begun, called}
+use Rattle.rules.specs.Histories.{next, run, outcomes, History, begun, called}
 use Rattle.rules.proofs.Keeps.{sound-stays}
 use Rattle.rules.proofs.Untouched.{sound-number}
 
--- labels are never written
-changes-labels : (cs : List Change) (t : Tables) → (changes cs t .tags ≡ t .tags) × (changes cs t .blank ≡ t .blank)
+-- beside the head and the elements nothing is written
+changes-rest : (cs : List Change) (t : Tables) → changes cs t .rest ≡ t .rest
 unfolding changes change
-changes-labels [] t = (refl, refl)
-changes-labels (c ∷ cs) t = changes-labels cs (change c t)
+changes-rest [] t = refl
+changes-rest (c ∷ cs) t = changes-rest cs (change c t)
 
-same-labels : (u : Tables) (tags blank : List ℕ) → u .tags ≡ tags → u .blank ≡ blank → lent (u .head) (u .elements) tags blank ≡ u
-same-labels u tags blank e f = ap₂ (λ (x y : List ℕ). lent (u .head) (u .elements) x y) (sym e) (sym f)
+pub rest-stays : (t : Tables) (c : Call) → serve t c .tables .rest ≡ t .rest
+unfolding serve
+rest-stays t c = go (verdict t c)
+  where
+    go : (v : Verdict) → outcome t (bufferOf c) v .tables .rest ≡ t .rest
+    go (Number n) = unfold outcome in refl
+    go (Prevented n h) = unfold outcome in refl
+    go (Done status bytes cs) = unfold outcome in changes-rest cs t
 
 -- the tables that an outcome leaves are those that the next call finds
-pub leaves-next : (t : Tables) (c : Call) → leaves (serve t c) t ≡ next t c
+pub leaves-next : (t : Tables) (c : Call) → serve t c .tables ≡ next t c
 unfolding serve next
 leaves-next t c = go (verdict t c)
   where
-    go : (v : Verdict) → leaves (outcome t (bufferOf c) v) t ≡ after v t
+    go : (v : Verdict) → outcome t (bufferOf c) v .tables ≡ after v t
     go (Number n) = unfold outcome after in refl
     go (Prevented n h) = unfold outcome after in refl
-    go (Done status bytes cs) = unfold outcome after in same-labels (changes cs t) (t .tags) (t .blank) (changes-labels cs t .0) (changes-labels cs t .1)
+    go (Done status bytes cs) = unfold outcome after in refl
 
 pub history-outcomes : {t u : Tables} {cs : List Call} {os : List Outcome} → History t cs os u → os ≡ outcomes t cs
 unfolding outcomes
@@ -41,7 +46,7 @@ unfolding run
 history-run begun = refl
 history-run (called {t = t} {c = c} e hs) = let i = history-run hs in let l = leaves-next t c in cc
 
-pub next-sound : (t : Tables) (c : Call) (o : Outcome) → o ≡ serve t c → sound t ≡ true → sound (leaves o t) ≡ true
+pub next-sound : (t : Tables) (c : Call) (o : Outcome) → o ≡ serve t c → sound t ≡ true → sound (o .tables) ≡ true
 next-sound t c o e s = rw (e, leaves-next t c) (sound-stays t c s)
 
 pub history-sound : {t u : Tables} {cs : List Call} {os : List Outcome} → History t cs os u → sound t ≡ true → sound u ≡ true

@@ -9,9 +9,9 @@ use lib.ListN.{length, getD}
 use lib.Dec.{eqb, leb, ltb}
 use borrow.Author.Tests.{eqb-true, eqb-false, leb-true, ltb-true, ltb-false, eq-eqb, le-leb}
 use Rattle.rules.specs.Choice.{when, allOf, differ, below}
-use Rattle.rules.specs.Tables.{Tables, headSize, elementSize, tagSize, hosts, places, volumes, unit, key, asc, ascq, attention, attentionq, volume, source, holder, id, mark, zeroByte}
+use Rattle.rules.specs.Tables.{Tables, Rest, headSize, elementSize, tagSize, hosts, places, volumes, unit, key, asc, ascq, attention, attentionq, volume, source, holder, id, mark, zeroByte}
 use Rattle.rules.specs.Roster.{Slot, Range, range, ranges, roster, kindAt, kindOf, transport, port}
-use Rattle.rules.specs.Sound.{within, countsSound, behind, rangeSound, noOverlap, clear, rangesSound, transportEmpty, sourceSound, markSound, stockSound, holdSound, once, senseSound, attentionSound, headSound, labelsSound, elementsSound, sound}
+use Rattle.rules.specs.Sound.{within, countsSound, behind, rangeSound, noOverlap, clear, rangesSound, transportEmpty, sourceSound, markSound, stockSound, holdSound, once, senseSound, attentionSound, headSound, labelsSound, restSound, elementsSound, sound}
 use Rattle.rules.proofs.Ladder.{either, if-true, if-of, unless-true, unless-of, any-cases, any-by-first, any-by-rest, any-nil, all-first, all-rest, all-cons, all-nil, differ-true, ne-differ, below-at, below-of}
 use Rattle.rules.proofs.Places.{roster-length}
 
@@ -314,6 +314,19 @@ labels-of tags blank f =
     all-cons _ _ (le-leb _ _ (f .volumes-most))
     (all-cons _ _ (eq-eqb _ _ (f .tags-length)) (all-cons _ _ (eq-eqb _ _ (f .blank-length)) all-nil))
 
+-- ---- the tables that no call writes
+
+pub record RestFits (r : Rest) : Type 0 where
+  pub labels-fit : LabelsFit (r .tags) (r .blank)
+
+pub rest-true : (r : Rest) → restSound r ≡ true → RestFits r
+unfolding restSound
+rest-true r e = record { labels-fit = labels-true _ _ e }
+
+pub rest-of : (r : Rest) → RestFits r → restSound r ≡ true
+unfolding restSound
+rest-of r f = labels-of _ _ (f .labels-fit)
+
 -- ---- the elements, where u holds the unit and top is the last volume number
 
 pub record ElementsFit (ss : List Slot) (u top : ℕ) (es : List ℕ) : Type 0 where
@@ -372,15 +385,15 @@ volumes-apart ss u top es f p q i j n z e = go (ltb q p) refl
 
 pub record Sound (t : Tables) : Type 0 where
   pub head-fits : HeadFits (t .head)
-  pub labels-fit : LabelsFit (t .tags) (t .blank)
-  pub elements-fit : ElementsFit (roster (t .head)) (unit (t .head)) (volumes (t .tags)) (t .elements)
+  pub rest-fits : RestFits (t .rest)
+  pub elements-fit : ElementsFit (roster (t .head)) (unit (t .head)) (volumes (t .rest .tags)) (t .elements)
 
 pub sound-true : (t : Tables) → sound t ≡ true → Sound t
 unfolding sound
 sound-true t e =
     record {
       head-fits = head-true _ (all-first _ _ e);
-      labels-fit = labels-true _ _ (all-first _ _ (all-rest _ _ e));
+      rest-fits = rest-true _ (all-first _ _ (all-rest _ _ e));
       elements-fit = elements-true _ _ _ _ (all-first _ _ (all-rest _ _ (all-rest _ _ e)));
     }
 
@@ -388,7 +401,7 @@ pub sound-of : (t : Tables) → Sound t → sound t ≡ true
 unfolding sound
 sound-of t s =
     all-cons _ _ (head-of _ (s .head-fits))
-    (all-cons _ _ (labels-of _ _ (s .labels-fit)) (all-cons _ _ (elements-of _ _ _ _ (s .elements-fit)) all-nil))
+    (all-cons _ _ (rest-of _ (s .rest-fits)) (all-cons _ _ (elements-of _ _ _ _ (s .elements-fit)) all-nil))
 
 -- ---- how many elements
 

@@ -28,16 +28,15 @@ use Rattle.rules.proofs.HeadFields.{sensed-length, sensed-else, attende
 -- ---- refused by number: no change is carried
 
 pub record Untouched (t : Tables) (buffer : List ℕ) (o : Outcome) : Type 0 where
-  pub head-is : o .head ≡ t .head
-  pub elements-is : o .elements ≡ t .elements
+  pub tables-is : o .tables ≡ t
   pub buffer-is : o .buffer ≡ buffer
   pub status-is : o .status ≡ 0
   pub count-is : o .count ≡ 0
 
 pub number-untouched : (t : Tables) (buffer : List ℕ) (v : Verdict) → outcome t buffer v .number ≢ 0 → Untouched t buffer (outcome t buffer v)
 unfolding outcome
-number-untouched t buffer (Number n) z = record { head-is = refl; elements-is = refl; buffer-is = refl; status-is = refl; count-is = refl }
-number-untouched t buffer (Prevented n h) z = record { head-is = refl; elements-is = refl; buffer-is = refl; status-is = refl; count-is = refl }
+number-untouched t buffer (Number n) z = record { tables-is = refl; buffer-is = refl; status-is = refl; count-is = refl }
+number-untouched t buffer (Prevented n h) z = record { tables-is = refl; buffer-is = refl; status-is = refl; count-is = refl }
 number-untouched t buffer (Done s bytes cs) z = absurd (z refl)
 
 -- "Number 7 also returns how many hosts prevent removal and the lowest such host; else both are 0."
@@ -84,6 +83,7 @@ OffHost h j = hostAt h ≤ j → j < hostAt (1 + h) → ⊥
 
 pub record OwnAlone (h : ℕ) (t u : Tables) : Type 0 where
   pub elements-is : u .elements ≡ t .elements
+  pub rest-is : u .rest ≡ t .rest
   pub head-length : length (u .head) ≡ length (t .head)
   pub head-else : (j : ℕ) → OffHost h j → byte (u .head) j ≡ byte (t .head) j
 
@@ -92,12 +92,14 @@ unfolding change inHead inElements
 own-alone h (Sense g k a q) t e =
     record {
       elements-is = refl;
+      rest-is = refl;
       head-length = sensed-length (t .head) g k a q;
       head-else = λ j d. sensed-else (t .head) g k a q j (λ m l x. d (omega arith) (omega arith));
     }
 own-alone h (Attention g a q) t e =
     record {
       elements-is = refl;
+      rest-is = refl;
       head-length = attended-length (t .head) g a q;
       head-else = λ j d. attended-else (t .head) g a q j (λ m l x. d (omega arith) (omega arith));
     }
@@ -110,12 +112,13 @@ own-alone h (Free w) t e = absurd e
 
 all-own-alone : (h : ℕ) (cs : List Change) (t : Tables) → AllOwn h cs → OwnAlone h t (changes cs t)
 unfolding changes
-all-own-alone h [] t e = record { elements-is = refl; head-length = refl; head-else = λ j d. refl }
+all-own-alone h [] t e = record { elements-is = refl; rest-is = refl; head-length = refl; head-else = λ j d. refl }
 all-own-alone h (c ∷ cs) t (e, es) =
     let a = own-alone h c t e in
     let b = all-own-alone h cs (change c t) es in
     record {
       elements-is = b .elements-is ∙ a .elements-is;
+      rest-is = b .rest-is ∙ a .rest-is;
       head-length = b .head-length ∙ a .head-length;
       head-else = λ j d. b .head-else j d ∙ a .head-else j d;
     }
@@ -296,9 +299,10 @@ event-quiet t c e = silent-outcome Any t (bufferOf c) (verdict t c) (event-silen
 -- ---- refused by status
 
 pub record OwnHost (h : ℕ) (t : Tables) (buffer : List ℕ) (o : Outcome) : Type 0 where
-  pub elements-is : o .elements ≡ t .elements
-  pub head-length : length (o .head) ≡ length (t .head)
-  pub head-else : (j : ℕ) → OffHost h j → byte (o .head) j ≡ byte (t .head) j
+  pub elements-is : o .tables .elements ≡ t .elements
+  pub rest-is : o .tables .rest ≡ t .rest
+  pub head-length : length (o .tables .head) ≡ length (t .head)
+  pub head-else : (j : ℕ) → OffHost h j → byte (o .tables .head) j ≡ byte (t .head) j
   pub count-is : o .count ≡ 0
   pub buffer-is : o .buffer ≡ buffer
 
@@ -316,6 +320,7 @@ status-outcome reads h t buffer (Done s bytes cs) e z =
     let none = e .none z in
     record {
       elements-is = a .elements-is;
+      rest-is = a .rest-is;
       head-length = a .head-length;
       head-else = a .head-else;
       count-is = ap length none;

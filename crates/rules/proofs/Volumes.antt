@@ -335,9 +335,9 @@ next-volumes w z t s Reset =
 
 -- with its outcome, as a history has it
 call-volumes : (w : ℕ) → w ≢ 0 → (t : Tables) (c : Call) (o : Outcome) → o ≡ serve t c → sound t ≡ true
-    → standing w (o .elements) + exported w t c o ≡ standing w (t .elements) + imported w t c o
+    → standing w (o .tables .elements) + exported w t c o ≡ standing w (t .elements) + imported w t c o
 call-volumes w z t c o e s =
-    let same : standing w (serve t c .elements) ≡ standing w (next t c .elements) = ap (λ (u : Tables). standing w (u .elements)) (leaves-next t c) in
+    let same : standing w (serve t c .tables .elements) ≡ standing w (next t c .elements) = ap (λ (u : Tables). standing w (u .elements)) (leaves-next t c) in
     rw e (omega (arith, same, next-volumes w z t (sound-true t s) c))
 
 pub history-volumes : (w : ℕ) → w ≢ 0 → {t u : Tables} {cs : List Call} {os : List Outcome} (hs : History t cs os u) → sound t ≡ true

@@ -7,7 +7,7 @@ use lib.ListN.{replicate, take}
 use lib.Dec.{eqb}
 use Rattle.rules.specs.Choice.{when, allOf}
 use Rattle.rules.specs.Bytes.{high, low}
-use Rattle.rules.specs.Tables.{Tables}
+use Rattle.rules.specs.Tables.{Tables, Rest}
 use Rattle.rules.specs.Order.{Outcome}
 use Rattle.rules.specs.Command.{Call, Import, Export, Reset, serve}
 use Rattle.rules.specs.Small.{quiet, senses, awaits, headOf, element, empty, loaded, elementsOf, library, quietHead, smallElements, small, moveBlock, exchangeBlock, readBlock, reserveBlock, naming, sends, asks, lentBuffer, ends, checks, refuses}
@@ -229,7 +229,7 @@ eventNumbers =
       on = locked;
       call = Export 0x0010;
       gives =
-          record { number = 7; status = 0; count = 0; preventers = 2; lowest = 3; head = locked .head; elements = locked .elements; buffer = [] };
+          record { number = 7; status = 0; count = 0; preventers = 2; lowest = 3; tables = locked; buffer = [] };
     }
     ∷ record { name = number-8-import; on = laden; call = Import 0x0010 3; gives = refuses 8 laden [] }
     ∷ record { name = number-8-export; on = small; call = Export 0x0010; gives = refuses 8 small [] }
@@ -340,6 +340,9 @@ same [] (y ∷ ys) = false
 same (x ∷ xs) [] = false
 same (x ∷ xs) (y ∷ ys) = when (eqb x y) (same xs ys) false
 
+unfoldable pub sameRest : Rest → Rest → Bool
+sameRest r s = allOf (same (r .tags) (s .tags) ∷ same (r .blank) (s .blank) ∷ [])
+
 unfoldable pub sameOutcome : Outcome → Outcome → Bool
 sameOutcome o p =
     allOf
@@ -348,8 +351,9 @@ sameOutcome o p =
     ∷ eqb (o .count) (p .count)
     ∷ eqb (o .preventers) (p .preventers)
     ∷ eqb (o .lowest) (p .lowest)
-    ∷ same (o .head) (p .head)
-    ∷ same (o .elements) (p .elements)
+    ∷ same (o .tables .head) (p .tables .head)
+    ∷ same (o .tables .elements) (p .tables .elements)
+    ∷ sameRest (o .tables .rest) (p .tables .rest)
     ∷ same (o .buffer) (p .buffer)
     ∷ [])
 

@@ -43,7 +43,7 @@ present elements v = anyFrom (λ p. eqb (volume elements p) v) (places elements)
 
 -- number 9: "volume number 0, above V, or already in the library"
 unfoldable pub wrongVolume : Tables → ℕ → Bool
-wrongVolume t v = anyOf (eqb v 0 ∷ ltb (volumes (t .tags)) v ∷ present (t .elements) v ∷ [])
+wrongVolume t v = anyOf (eqb v 0 ∷ ltb (volumes (t .rest .tags)) v ∷ present (t .elements) v ∷ [])
 
 -- "status and count are then 0, as they are for events"
 unfoldable pub done : List Change → Verdict

@@ -7,7 +7,7 @@ use mathlib.Core.Bool.{Bool, true}
 use lib.Dec.{eqb}
 use Rattle.rules.specs.Choice.{when, anyOf}
 use Rattle.rules.specs.Bytes.{byte, word}
-use Rattle.rules.specs.Tables.{Tables, lent, volume}
+use Rattle.rules.specs.Tables.{Tables, volume}
 use Rattle.rules.specs.Order.{Outcome, after, volumeOf}
 use Rattle.rules.specs.Command.{Request, Call, Command, Import, Export, Reset, verdict, serve, operation, TEST-UNIT-READY, REQUEST-SENSE, MOVE-MEDIUM, EXCHANGE-MEDIUM}
 
@@ -28,14 +28,11 @@ outcomes t (c ∷ cs) = serve t c ∷ outcomes (next t c) cs
 -- ---- calls one after the other, as a core answers them: each outcome is the one that an entry's statement names, and the next call
 -- finds the tables that this one left
 
-abbrev pub leaves : Outcome → Tables → Tables
-leaves o t = lent (o .head) (o .elements) (t .tags) (t .blank)
-
 -- from tables, these calls with these outcomes, to tables
 pub data History : Tables → List Call → List Outcome → Tables → Type 0 where
   begun : {t : Tables} → History t [] [] t
   called : {t u : Tables} {c : Call} {o : Outcome} {cs : List Call} {os : List Outcome}
-      → o ≡ serve t c → History (leaves o t) cs os u → History t (c ∷ cs) (o ∷ os) u
+      → o ≡ serve t c → History (o .tables) cs os u → History t (c ∷ cs) (o ∷ os) u
 
 -- ---- "the volumes present equal those loaded plus imports less exports, read from the history"
 

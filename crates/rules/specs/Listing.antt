@@ -64,7 +64,7 @@ fourZeros = 0 ∷ 0 ∷ 0 ∷ 0 ∷ []
 unfoldable pub descriptor : Bool → Tables → Slot → List ℕ
 descriptor tagged t s =
     front (s .address) (flags (s .kind) (volume (t .elements) (s .place)) (mark (t .elements) (s .place))) (source (t .elements) (s .place))
-    ++ (when tagged (label (t .tags) (t .blank) (volume (t .elements) (s .place))) [] ++ fourZeros)
+    ++ (when tagged (label (t .rest .tags) (t .rest .blank) (volume (t .elements) (s .place))) [] ++ fourZeros)
 
 unfoldable pub width : Bool → ℕ
 width tagged = when tagged 52 16

@@ -24,8 +24,7 @@ pub record Outcome : Type 0 where
   pub count : ℕ
   pub preventers : ℕ
   pub lowest : ℕ
-  pub head : List ℕ
-  pub elements : List ℕ
+  pub tables : Tables
   pub buffer : List ℕ
 
 -- "GOOD is 00h, CHECK CONDITION 02h, RESERVATION CONFLICT 18h."
@@ -47,9 +46,9 @@ after (Done status bytes cs) t = changes cs t
 -- what a call with this verdict ends with: "status and count are then 0"; "An answer buffer keeps every byte past the count returned."
 unfoldable pub outcome : Tables → List ℕ → Verdict → Outcome
 outcome t buffer (Number n) =
-    record { number = n; status = 0; count = 0; preventers = 0; lowest = 0; head = t .head; elements = t .elements; buffer = buffer }
+    record { number = n; status = 0; count = 0; preventers = 0; lowest = 0; tables = t; buffer = buffer }
 outcome t buffer (Prevented n h) =
-    record { number = 7; status = 0; count = 0; preventers = n; lowest = h; head = t .head; elements = t .elements; buffer = buffer }
+    record { number = 7; status = 0; count = 0; preventers = n; lowest = h; tables = t; buffer = buffer }
 outcome t buffer (Done status bytes cs) =
     record {
       number = 0;
@@ -57,8 +56,7 @@ outcome t buffer (Done status bytes cs) =
       count = length bytes;
       preventers = 0;
       lowest = 0;
-      head = changes cs t .head;
-      elements = changes cs t .elements;
+      tables = changes cs t;
       buffer = put buffer 0 bytes;
     }
 

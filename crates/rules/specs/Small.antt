@@ -3,7 +3,7 @@ use Prim.Native.Nat.{ℕ, _/_, _%_}
 use mathlib.Core.List.{List, [], _∷_, _++_}
 use lib.ListN.{replicate}
 use Rattle.rules.specs.Bytes.{three, high, low}
-use Rattle.rules.specs.Tables.{Tables, lent}
+use Rattle.rules.specs.Tables.{Tables, lent, labels}
 use Rattle.rules.specs.Order.{Outcome}
 use Rattle.rules.specs.Command.{Request, Call, Command}
 
@@ -60,7 +60,7 @@ unfoldable pub smallBlank : List ℕ
 smallBlank = replicate 36 0x20
 
 unfoldable pub library : List ℕ → List ℕ → Tables
-library head elements = lent head elements smallTags smallBlank
+library head elements = lent head elements (labels smallTags smallBlank)
 
 -- "no source, holder, sense or attention"
 unfoldable pub quietHead : List ℕ
@@ -112,7 +112,7 @@ lentBuffer n = replicate n 0xEE
 -- status, count, head, elements, buffer of a call with house number 0
 unfoldable pub ends : ℕ → ℕ → List ℕ → List ℕ → List ℕ → Outcome
 ends status count head elements buffer =
-    record { number = 0; status = status; count = count; preventers = 0; lowest = 0; head = head; elements = elements; buffer = buffer }
+    record { number = 0; status = status; count = count; preventers = 0; lowest = 0; tables = library head elements; buffer = buffer }
 
 -- CHECK CONDITION of host 1 on the small library
 unfoldable pub checks : ℕ → ℕ → ℕ → Outcome
@@ -121,4 +121,4 @@ checks k a q = ends 0x02 0 (headOf 0 0 (senses k a q) quiet quiet) smallElements
 -- refused by a house number, tables and buffer as they were
 unfoldable pub refuses : ℕ → Tables → List ℕ → Outcome
 refuses n t buffer =
-    record { number = n; status = 0; count = 0; preventers = 0; lowest = 0; head = t .head; elements = t .elements; buffer = buffer }
+    record { number = n; status = 0; count = 0; preventers = 0; lowest = 0; tables = t; buffer = buffer }

@@ -5,7 +5,7 @@ use mathlib.Core.Bool.{Bool, true, false}
 use lib.ListN.{length}
 use lib.Dec.{eqb, leb}
 use Rattle.rules.specs.Choice.{when, anyOf, allOf, differ, below}
-use Rattle.rules.specs.Tables.{Tables, headSize, elementSize, tagSize, hosts, volumes, unit, key, asc, ascq, attention, attentionq, volume, source, holder, id, mark, zeroByte}
+use Rattle.rules.specs.Tables.{Tables, Rest, headSize, elementSize, tagSize, hosts, volumes, unit, key, asc, ascq, attention, attentionq, volume, source, holder, id, mark, zeroByte}
 use Rattle.rules.specs.Roster.{Slot, Range, range, ranges, roster, kindAt, kindOf, transport, storage, port, drive}
 
 -- low to high, both ends included
@@ -97,6 +97,10 @@ headSound head =
 unfoldable pub labelsSound : List ℕ → List ℕ → Bool
 labelsSound tags blank = allOf (leb (volumes tags) 512 ∷ eqb (length tags) (tagSize * volumes tags) ∷ eqb (length blank) tagSize ∷ [])
 
+-- the tables that no call writes
+unfoldable pub restSound : Rest → Bool
+restSound r = labelsSound (r .tags) (r .blank)
+
 unfoldable pub elementsSound : List Slot → ℕ → ℕ → List ℕ → Bool
 elementsSound ss u top elements =
     allOf
@@ -111,6 +115,6 @@ unfoldable pub sound : Tables → Bool
 sound t =
     allOf
     (headSound (t .head)
-    ∷ labelsSound (t .tags) (t .blank)
-    ∷ elementsSound (roster (t .head)) (unit (t .head)) (volumes (t .tags)) (t .elements)
+    ∷ restSound (t .rest)
+    ∷ elementsSound (roster (t .head)) (unit (t .head)) (volumes (t .rest .tags)) (t .elements)
     ∷ [])

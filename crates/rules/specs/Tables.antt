@@ -8,14 +8,30 @@ use lib.Dec.{eqb}
 use Rattle.rules.specs.Choice.{when, each, allOf}
 use Rattle.rules.specs.Bytes.{byte, word, put, high, low}
 
-pub record Tables : Type 0 where
-  pub head : List ℕ
-  pub elements : List ℕ
+-- the tables that no call writes
+pub record Rest : Type 0 where
   pub tags : List ℕ
   pub blank : List ℕ
 
-abbrev pub lent : List ℕ → List ℕ → List ℕ → List ℕ → Tables
-lent head elements tags blank = record { head = head; elements = elements; tags = tags; blank = blank }
+pub record Tables : Type 0 where
+  pub head : List ℕ
+  pub elements : List ℕ
+  pub rest : Rest
+
+abbrev pub lent : List ℕ → List ℕ → Rest → Tables
+lent head elements rest = record { head = head; elements = elements; rest = rest }
+
+-- all that is lent beside the head and the elements
+abbrev pub others : List ℕ → List ℕ → Rest
+others tags blank = record { tags = tags; blank = blank }
+
+-- the labels, and every other table empty
+abbrev pub labels : List ℕ → List ℕ → Rest
+labels tags blank = others tags blank
+
+-- every one of them empty
+abbrev pub bare : Rest
+bare = labels [] []
 
 -- ---- the sizes
 
@@ -227,7 +243,7 @@ inElements (Hold p n h i) elements = held elements p n h i
 inElements (Free w) elements = freed w elements
 
 unfoldable pub change : Change → Tables → Tables
-change c t = lent (inHead c (t .head)) (inElements c (t .elements)) (t .tags) (t .blank)
+change c t = lent (inHead c (t .head)) (inElements c (t .elements)) (t .rest)
 
 -- one change after another
 unfoldable pub changes : List Change → Tables → Tables

@@ -10,7 +10,7 @@ use lib.Dec.{leb, ltb}
 use borrow.Author.Tests.{leb-true, leb-false, ltb-true, ltb-false, le-leb, lt-leb}
 use Rattle.rules.specs.Choice.{when}
 use Rattle.rules.specs.Bytes.{put}
-use Rattle.rules.specs.Tables.{Tables, Change, changes, change, inHead, inElements}
+use Rattle.rules.specs.Tables.{Tables, Change, changes, change, inHead, inElements, lent}
 use Rattle.rules.specs.Order.{Outcome, Done, Number, GOOD, outcome, fits, check}
 use Rattle.rules.specs.Sense.{told, requestSense}
 use Rattle.rules.proofs.Ladder.{on, when-is}
@@ -50,7 +50,7 @@ take-within n m xs h l = rw (length-take-le n xs h) l
 
 pub tells : (t : Tables) (buffer head′ buffer′ : List ℕ) (r : Reply) (n k a q : ℕ) (c : Change) → n ≤ whole → r ≡ toldOf GOOD n
     → buffer′ ≡ put buffer 0 (take n (told k a q)) → head′ ≡ inHead c (t .head) → t .elements ≡ inElements c (t .elements)
-    → ended r head′ (t .elements) buffer′ ≡ outcome t buffer (Done GOOD (take n (told k a q)) (c ∷ []))
+    → ended r (lent head′ (t .elements) (t .rest)) buffer′ ≡ outcome t buffer (Done GOOD (take n (told k a q)) (c ∷ []))
 unfolding outcome changes change
 tells t buffer head′ buffer′ r n k a q c h is b hd es = rw (is, b, hd, ← es, told-length n k a q h)
 

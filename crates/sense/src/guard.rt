@@ -4,7 +4,7 @@ ghost use mathlib.Core.Path.{_≡_};
 ghost use mathlib.Core.List.{List};
 ghost use Prim.Native.Nat.{ℕ, _≤_};
 ghost use lib.ListN.{length};
-ghost use Rattle.rules.specs.Tables.{headSize, hosts, unit, attention, lent};
+ghost use Rattle.rules.specs.Tables.{headSize, hosts, unit, attention, lent, Rest};
 ghost use Rattle.rules.specs.Order.{Verdict, outcome, other, afterAttention};
 ghost use Rattle.order.specs.Ending.{ended};
 ghost use Rattle.sense.specs.Guarding.{guardOf};
@@ -44,7 +44,7 @@ pub fn tell_attention(head: &mut [u8], host: u8) -> Reply
     requires { ⌜ headSize ≤ length (now head) ⌝ }
     requires { ⌜ host ≤ hosts ⌝ }
     requires { ⌜ (attention (now head) host ≡ 0 → ⊥) ⌝ }
-    ensures { λ r. ⌜ ((elements tags blank buffer : List ℕ) (rest : Verdict) → ended r (now (head .exit)) elements buffer ≡ outcome (lent (now (head .entry)) elements tags blank) buffer (afterAttention (lent (now (head .entry)) elements tags blank) host rest)) ⌝ }
+    ensures { λ r. ⌜ ((elements : List ℕ) (rest : Rest) (buffer : List ℕ) (later : Verdict) → ended r (lent (now (head .exit)) elements rest) buffer ≡ outcome (lent (now (head .entry)) elements rest) buffer (afterAttention (lent (now (head .entry)) elements rest) host later)) ⌝ }
 {
     let asc = tables::head::attention(head, host);
     let ascq = tables::head::attentionq(head, host);

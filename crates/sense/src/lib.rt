@@ -7,7 +7,7 @@ ghost use mathlib.Core.List.{List};
 ghost use Prim.Native.Nat.{ℕ, _≤_};
 ghost use lib.ListN.{length, take};
 ghost use Rattle.rules.specs.Bytes.{put};
-ghost use Rattle.rules.specs.Tables.{headSize, hosts, lent};
+ghost use Rattle.rules.specs.Tables.{headSize, hosts, lent, Rest};
 ghost use Rattle.rules.specs.Order.{outcome, fits};
 ghost use Rattle.rules.specs.Moves.{ready};
 ghost use Rattle.rules.specs.Sense.{told, tellsAttention, requestSense};
@@ -30,7 +30,7 @@ pub fn test_unit_ready(head: &mut [u8], host: u8, block: &[u8]) -> Reply
     requires { ⌜ headSize ≤ length (now head) ⌝ }
     requires { ⌜ host ≤ hosts ⌝ }
     requires { ⌜ length (now block) ≡ 6 ⌝ }
-    ensures { λ r. ⌜ ((elements tags blank buffer : List ℕ) → ended r (now (head .exit)) elements buffer ≡ outcome (lent (now (head .entry)) elements tags blank) buffer (ready host (now (block .entry)))) ⌝ }
+    ensures { λ r. ⌜ ((elements : List ℕ) (rest : Rest) (buffer : List ℕ) → ended r (lent (now (head .exit)) elements rest) buffer ≡ outcome (lent (now (head .entry)) elements rest) buffer (ready host (now (block .entry)))) ⌝ }
 {
     let masks = [0x1F, 0xFF, 0xFF, 0xFF, 0xFF];
     if order::stray(block, &masks) {
@@ -105,7 +105,7 @@ fn tell_attention(head: &mut [u8], host: u8, answer: &mut [u8], count: usize) ->
     requires { ⌜ host ≤ hosts ⌝ }
     requires { ⌜ count ≤ whole ⌝ }
     requires { ⌜ count ≤ length (now answer) ⌝ }
-    ensures { λ r. ⌜ ((elements tags blank : List ℕ) → ended r (now (head .exit)) elements (now (answer .exit)) ≡ outcome (lent (now (head .entry)) elements tags blank) (now (answer .entry)) (meaning (now (head .entry)) host (Ruling.Attention count))) ⌝ }
+    ensures { λ r. ⌜ ((elements : List ℕ) (rest : Rest) → ended r (lent (now (head .exit)) elements rest) (now (answer .exit)) ≡ outcome (lent (now (head .entry)) elements rest) (now (answer .entry)) (meaning (now (head .entry)) host (Ruling.Attention count))) ⌝ }
 {
     let asc = tables::head::attention(head, host);
     let ascq = tables::head::attentionq(head, host);
@@ -120,7 +120,7 @@ fn tell_sense(head: &mut [u8], host: u8, answer: &mut [u8], count: usize) -> Rep
     requires { ⌜ host ≤ hosts ⌝ }
     requires { ⌜ count ≤ whole ⌝ }
     requires { ⌜ count ≤ length (now answer) ⌝ }
-    ensures { λ r. ⌜ ((elements tags blank : List ℕ) → ended r (now (head .exit)) elements (now (answer .exit)) ≡ outcome (lent (now (head .entry)) elements tags blank) (now (answer .entry)) (meaning (now (head .entry)) host (Ruling.Sense count))) ⌝ }
+    ensures { λ r. ⌜ ((elements : List ℕ) (rest : Rest) → ended r (lent (now (head .exit)) elements rest) (now (answer .exit)) ≡ outcome (lent (now (head .entry)) elements rest) (now (answer .entry)) (meaning (now (head .entry)) host (Ruling.Sense count))) ⌝ }
 {
     let key = tables::head::key(head, host);
     let asc = tables::head::asc(head, host);
@@ -135,7 +135,7 @@ pub fn request_sense(head: &mut [u8], host: u8, block: &[u8], answer: &mut [u8])
     requires { ⌜ headSize ≤ length (now head) ⌝ }
     requires { ⌜ host ≤ hosts ⌝ }
     requires { ⌜ length (now block) ≡ 6 ⌝ }
-    ensures { λ r. ⌜ ((elements tags blank : List ℕ) → ended r (now (head .exit)) elements (now (answer .exit)) ≡ outcome (lent (now (head .entry)) elements tags blank) (now (answer .entry)) (fits (now (answer .entry)) (requestSense (lent (now (head .entry)) elements tags blank) host (now (block .entry))))) ⌝ }
+    ensures { λ r. ⌜ ((elements : List ℕ) (rest : Rest) → ended r (lent (now (head .exit)) elements rest) (now (answer .exit)) ≡ outcome (lent (now (head .entry)) elements rest) (now (answer .entry)) (fits (now (answer .entry)) (requestSense (lent (now (head .entry)) elements rest) host (now (block .entry))))) ⌝ }
 {
     match judge(head, host, block, answer.len()) {
         Ruling::Stray => order::check(head, host, 5, 0x24, 0x00),

@@ -8,10 +8,11 @@ use lib.ListN.{length}
 use lib.Dec.{eqb}
 use borrow.Author.Tests.{not-false, eqb-true, leb-true}
 use Rattle.rules.specs.Choice.{allOf, below}
-use Rattle.rules.specs.Tables.{lent, headSize, elementSize, unit, volumes, volume, holder, id, zeroByte}
+use Rattle.rules.specs.Tables.{Rest, lent, headSize, elementSize, unit, volumes, volume, holder, id, zeroByte}
 use Rattle.rules.specs.Roster.{Slot, range, ranges, kindAt}
-use Rattle.rules.specs.Sound.{headSound, labelsSound, stockSound, holdSound, once, elementsSound, sound}
+use Rattle.rules.specs.Sound.{headSound, restSound, stockSound, holdSound, once, elementsSound, sound}
 use Rattle.rules.proofs.Ladder.{all-first, below-at}
+use Rattle.rules.proofs.Soundness.{rest-true}
 use Rattle.tables.specs.declared.Range.{Range as Code}
 use Rattle.tables.specs.Ranges.{meant, rosterOf, Types}
 use Rattle.tables.proofs.Roster.{roster-is}
@@ -46,16 +47,15 @@ pub head-long : (head : List ℕ) (b : Bool) → b ≡ headSound head → not b 
 unfolding headSound
 head-long head b e t = let l : length head ≡ headSize = eqb-true (length head) headSize (all-first _ _ (sym e ∙ not-false b t)) in omega arith
 
-pub labels-top : (tags blank : List ℕ) (b : Bool) (top : ℕ) → b ≡ labelsSound tags blank → not b ≡ false → top ≡ volumes tags → top ≤ 512
-unfolding labelsSound
-labels-top tags blank b top e t is = rw is (leb-true (volumes tags) 512 (all-first _ _ (sym e ∙ not-false b t)))
+pub rest-top : (rest : Rest) (b : Bool) (top : ℕ) → b ≡ restSound rest → not b ≡ false → top ≡ volumes (rest .tags) → top ≤ 512
+rest-top rest b top e t is = rw is (rest-true rest (sym e ∙ not-false b t) .labels-fit .volumes-most)
 
 module _ (head : List ℕ) (rs : List Code) (is : meant rs ≡ ranges head) where
   pub head-typed : Typed (meant rs)
   unfolding Types ranges range
   head-typed = rw is (omega arith, (omega arith, (omega arith, (omega arith, tt))))
 
-  pub sound-by : (es tags blank : List ℕ) (u top : ℕ) → u ≡ unit head → top ≡ volumes tags → (z : Bool)
-      → z ≡ allOf (headSound head ∷ labelsSound tags blank ∷ elementsSound (rosterOf rs) u top es ∷ []) → z ≡ sound (lent head es tags blank)
+  pub sound-by : (es : List ℕ) (rest : Rest) (u top : ℕ) → u ≡ unit head → top ≡ volumes (rest .tags) → (z : Bool)
+      → z ≡ allOf (headSound head ∷ restSound rest ∷ elementsSound (rosterOf rs) u top es ∷ []) → z ≡ sound (lent head es rest)
   unfolding sound
-  sound-by es tags blank u top e f z w = rw (roster-is rs head is, e, f) at w
+  sound-by es rest u top e f z w = rw (roster-is rs head is, e, f) at w

@@ -2,8 +2,8 @@
 pub mod element;
 
 ghost use mathlib.Core.Path.{_≡_};
-ghost use Rattle.rules.specs.Tables.{lent};
-ghost use Rattle.rules.specs.Sound.{sound, labelsSound};
+ghost use Rattle.rules.specs.Tables.{lent, others};
+ghost use Rattle.rules.specs.Sound.{sound, labelsSound, restSound};
 
 // "V at most 512; all lengths exact"
 fn labels_sound(tags: &[u8], blank: &[u8]) -> bool
@@ -22,14 +22,21 @@ fn labels_sound(tags: &[u8], blank: &[u8]) -> bool
     true
 }
 
-// The head, then the labels, then the elements by what the head says of them.
+// The tables that no call writes.
+fn rest_sound(tags: &[u8], blank: &[u8]) -> bool
+    ensures { λ r. ⌜ r ≡ restSound (others (now (tags .entry)) (now (blank .entry))) ⌝ }
+{
+    labels_sound(tags, blank)
+}
+
+// The head, then what no call writes, then the elements by what the head says of them.
 pub fn sound(head: &[u8], elements: &[u8], tags: &[u8], blank: &[u8]) -> bool
-    ensures { λ r. ⌜ r ≡ sound (lent (now (head .entry)) (now (elements .entry)) (now (tags .entry)) (now (blank .entry))) ⌝ }
+    ensures { λ r. ⌜ r ≡ sound (lent (now (head .entry)) (now (elements .entry)) (others (now (tags .entry)) (now (blank .entry)))) ⌝ }
 {
     if !sound_head::sound(head) {
         return false;
     }
-    if !labels_sound(tags, blank) {
+    if !rest_sound(tags, blank) {
         return false;
     }
     let rs = tables::ranges(head);

@@ -29,17 +29,17 @@ some block e = go (length block) e
     go zero d = absurd (let y : _≡_ {A = ℕ} 0 1 = cc in omega arith)
     go (suc n) d = omega arith
 
-pub six : (block : List ℕ) (op : ℕ) → blockFits block ≡ true → operation block ≡ op → op / 32 ≡ 0 → length block ≡ 6
+pub six : (op : ℕ) → op / 32 ≡ 0 → (block : List ℕ) → operation block ≡ op → blockFits block ≡ true → length block ≡ 6
 unfolding groupFits when
-six block op e is group = eqb-true (length block) 6 (rw (is, group) at (fits-group block e))
+six op group block is e = eqb-true (length block) 6 (rw (is, group) at (fits-group block e))
 
-pub twelve : (block : List ℕ) (op : ℕ) → blockFits block ≡ true → operation block ≡ op → op / 32 ≡ 5 → length block ≡ 12
+pub twelve : (op : ℕ) → op / 32 ≡ 5 → (block : List ℕ) → operation block ≡ op → blockFits block ≡ true → length block ≡ 12
 unfolding groupFits when anyOf
-twelve block op e is group = eqb-true (length block) 12 (rw (is, group) at (fits-group block e))
+twelve op group block is e = eqb-true (length block) 12 (rw (is, group) at (fits-group block e))
 
 -- the last of the eight
-pub last : (op : ℕ) → known op ≡ true → op ≢ 0x00 → op ≢ 0x03 → op ≢ 0x16 → op ≢ 0x17 → op ≢ 0x1E → op ≢ 0xA5 → op ≢ 0xA6 → op ≡ 0xB8
+pub last : (op : ℕ) → op ≢ 0x00 → op ≢ 0x16 → op ≢ 0x1E → op ≢ 0xA5 → op ≢ 0xA6 → known op ≡ true → op ≢ 0x03 → op ≢ 0x17 → op ≡ 0xB8
 unfolding known anyOf when
-last op e a b c d f g h =
+last op a c f g h e b d =
     either op 0xB8 (λ i. i)
     λ n. absurd (let z : false ≡ true = rw (ne-eqb _ _ a, ne-eqb _ _ b, ne-eqb _ _ c, ne-eqb _ _ d, ne-eqb _ _ f, ne-eqb _ _ g, ne-eqb _ _ h, ne-eqb _ _ n) at e in let y : _≡_ {A = ℕ} 0 1 = cc in omega arith)

@@ -1,4 +1,4 @@
-// Steps 1 to 3 and the choice of the command, for sound tables, a host from 1 to 8 and a block of its length.
+// Steps 1 to 3 and the choice of the command, for tables that suit, as sound ones do, a host from 1 to 8 and a block of its length.
 pub mod judging;
 
 use order::Reply;
@@ -8,11 +8,11 @@ ghost use mathlib.Core.Bool.{true};
 ghost use mathlib.Core.List.{List};
 ghost use Prim.Native.Nat.{ℕ, _≤_};
 ghost use lib.ListN.{length};
-ghost use Rattle.rules.specs.Tables.{lent, headSize, hosts};
-ghost use Rattle.rules.specs.Sound.{sound};
+ghost use Rattle.rules.specs.Tables.{lent, headSize, hosts, Rest};
 ghost use Rattle.rules.specs.Order.{outcome, fits};
 ghost use Rattle.rules.specs.Command.{operation, known, blockFits, steps as stepsVerdict};
 ghost use Rattle.order.specs.Ending.{ended};
+ghost use Rattle.steps.specs.Suited.{Suited};
 ghost use Rattle.steps.specs.Steps.{commandBy, guardedBy, heldBy, openBy};
 
 // The commands that meet steps 2 and 3.
@@ -26,11 +26,11 @@ fn command<'a>(
     parameters: &[u8],
     answer: &mut [u8],
 ) -> Reply
-    requires { ⌜ sound (lent (now head) (now elements) (now tags) (now blank)) ≡ true ⌝ }
+    requires { ⌜ Suited (now head) (now elements) (now tags) (now blank) ⌝ }
     requires { ⌜ (1 ≤ host) × (host ≤ hosts) ⌝ }
     requires { ⌜ blockFits (now block) ≡ true ⌝ }
     requires { ⌜ (known (operation (now block)) ≡ true) × ((operation (now block) ≡ 0x03 → ⊥) × (operation (now block) ≡ 0x17 → ⊥)) ⌝ }
-    ensures { λ r. ⌜ ended r (now (head .exit)) (now (elements .exit)) (now (answer .exit)) ≡ outcome (lent (now (head .entry)) (now (elements .entry)) (now (tags .entry)) (now (blank .entry))) (now (answer .entry)) (fits (now (answer .entry)) (commandBy (lent (now (head .entry)) (now (elements .entry)) (now (tags .entry)) (now (blank .entry))) host (now (block .entry)) (now (parameters .entry)))) ⌝ }
+    ensures { λ r. ⌜ ((rest : Rest) → rest .tags ≡ now (tags .entry) → rest .blank ≡ now (blank .entry) → ended r (lent (now (head .exit)) (now (elements .exit)) rest) (now (answer .exit)) ≡ outcome (lent (now (head .entry)) (now (elements .entry)) rest) (now (answer .entry)) (fits (now (answer .entry)) (commandBy (lent (now (head .entry)) (now (elements .entry)) rest) host (now (block .entry)) (now (parameters .entry))))) ⌝ }
 {
     let op = block[0];
     if op == 0x00 {
@@ -56,7 +56,7 @@ fn held(head: &mut [u8], elements: &mut [u8], host: u8, block: &[u8]) -> Reply
     requires { ⌜ headSize ≤ length (now head) ⌝ }
     requires { ⌜ host ≤ hosts ⌝ }
     requires { ⌜ blockFits (now block) ≡ true ⌝ }
-    ensures { λ r. ⌜ ((tags blank buffer : List ℕ) → ended r (now (head .exit)) (now (elements .exit)) buffer ≡ outcome (lent (now (head .entry)) (now (elements .entry)) tags blank) buffer (fits buffer (heldBy (lent (now (head .entry)) (now (elements .entry)) tags blank) host (now (block .entry))))) ⌝ }
+    ensures { λ r. ⌜ ((rest : Rest) (buffer : List ℕ) → ended r (lent (now (head .exit)) (now (elements .exit)) rest) buffer ≡ outcome (lent (now (head .entry)) (now (elements .entry)) rest) buffer (fits buffer (heldBy (lent (now (head .entry)) (now (elements .entry)) rest) host (now (block .entry))))) ⌝ }
 {
     if block[0] == 0x17 {
         return holds::release(head, elements, host, block);
@@ -75,11 +75,11 @@ fn admitted<'a>(
     parameters: &[u8],
     answer: &mut [u8],
 ) -> Reply
-    requires { ⌜ sound (lent (now head) (now elements) (now tags) (now blank)) ≡ true ⌝ }
+    requires { ⌜ Suited (now head) (now elements) (now tags) (now blank) ⌝ }
     requires { ⌜ (1 ≤ host) × (host ≤ hosts) ⌝ }
     requires { ⌜ blockFits (now block) ≡ true ⌝ }
     requires { ⌜ (known (operation (now block)) ≡ true) × (operation (now block) ≡ 0x03 → ⊥) ⌝ }
-    ensures { λ r. ⌜ ended r (now (head .exit)) (now (elements .exit)) (now (answer .exit)) ≡ outcome (lent (now (head .entry)) (now (elements .entry)) (now (tags .entry)) (now (blank .entry))) (now (answer .entry)) (fits (now (answer .entry)) (openBy (lent (now (head .entry)) (now (elements .entry)) (now (tags .entry)) (now (blank .entry))) host (now (block .entry)) (now (parameters .entry)))) ⌝ }
+    ensures { λ r. ⌜ ((rest : Rest) → rest .tags ≡ now (tags .entry) → rest .blank ≡ now (blank .entry) → ended r (lent (now (head .exit)) (now (elements .exit)) rest) (now (answer .exit)) ≡ outcome (lent (now (head .entry)) (now (elements .entry)) rest) (now (answer .entry)) (fits (now (answer .entry)) (openBy (lent (now (head .entry)) (now (elements .entry)) rest) host (now (block .entry)) (now (parameters .entry))))) ⌝ }
 {
     if block[0] == 0x17 {
         return holds::release(head, elements, host, block);
@@ -98,11 +98,11 @@ fn guarded<'a>(
     parameters: &[u8],
     answer: &mut [u8],
 ) -> Reply
-    requires { ⌜ sound (lent (now head) (now elements) (now tags) (now blank)) ≡ true ⌝ }
+    requires { ⌜ Suited (now head) (now elements) (now tags) (now blank) ⌝ }
     requires { ⌜ (1 ≤ host) × (host ≤ hosts) ⌝ }
     requires { ⌜ blockFits (now block) ≡ true ⌝ }
     requires { ⌜ (known (operation (now block)) ≡ true) × (operation (now block) ≡ 0x03 → ⊥) ⌝ }
-    ensures { λ r. ⌜ ended r (now (head .exit)) (now (elements .exit)) (now (answer .exit)) ≡ outcome (lent (now (head .entry)) (now (elements .entry)) (now (tags .entry)) (now (blank .entry))) (now (answer .entry)) (fits (now (answer .entry)) (guardedBy (lent (now (head .entry)) (now (elements .entry)) (now (tags .entry)) (now (blank .entry))) host (now (block .entry)) (now (parameters .entry)))) ⌝ }
+    ensures { λ r. ⌜ ((rest : Rest) → rest .tags ≡ now (tags .entry) → rest .blank ≡ now (blank .entry) → ended r (lent (now (head .exit)) (now (elements .exit)) rest) (now (answer .exit)) ≡ outcome (lent (now (head .entry)) (now (elements .entry)) rest) (now (answer .entry)) (fits (now (answer .entry)) (guardedBy (lent (now (head .entry)) (now (elements .entry)) rest) host (now (block .entry)) (now (parameters .entry))))) ⌝ }
 {
     match sense::guard::judge(head, host) {
         Guard::Pending => {
@@ -128,10 +128,10 @@ pub fn steps<'a>(
     parameters: &[u8],
     answer: &mut [u8],
 ) -> Reply
-    requires { ⌜ sound (lent (now head) (now elements) (now tags) (now blank)) ≡ true ⌝ }
+    requires { ⌜ Suited (now head) (now elements) (now tags) (now blank) ⌝ }
     requires { ⌜ (1 ≤ host) × (host ≤ hosts) ⌝ }
     requires { ⌜ blockFits (now block) ≡ true ⌝ }
-    ensures { λ r. ⌜ ended r (now (head .exit)) (now (elements .exit)) (now (answer .exit)) ≡ outcome (lent (now (head .entry)) (now (elements .entry)) (now (tags .entry)) (now (blank .entry))) (now (answer .entry)) (fits (now (answer .entry)) (stepsVerdict (lent (now (head .entry)) (now (elements .entry)) (now (tags .entry)) (now (blank .entry))) host (now (block .entry)) (now (parameters .entry)))) ⌝ }
+    ensures { λ r. ⌜ ((rest : Rest) → rest .tags ≡ now (tags .entry) → rest .blank ≡ now (blank .entry) → ended r (lent (now (head .exit)) (now (elements .exit)) rest) (now (answer .exit)) ≡ outcome (lent (now (head .entry)) (now (elements .entry)) rest) (now (answer .entry)) (fits (now (answer .entry)) (stepsVerdict (lent (now (head .entry)) (now (elements .entry)) rest) host (now (block .entry)) (now (parameters .entry))))) ⌝ }
 {
     let op = block[0];
     if op == 0x03 {

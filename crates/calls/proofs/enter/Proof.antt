@@ -33,7 +33,7 @@ same-length-5 c = search needs
 
 returns-2 : tie.Need-returns-2
 unfolding called
-returns-2 c = eq-not _ _ _ _ _ (c .before .before .before .before .before .before .before .before .if1 .left) (eq-is _ _ _ _ _ (c .before .before .before .before .before .before .before .if2 .taken) (event _ _ _ _ _ (c .before .before .before .before .smc-import .ensures)))
+returns-2 c = eq-not _ _ _ _ _ (c .before .before .before .before .before .before .before .before .if1 .left) (eq-is _ _ _ _ _ (c .before .before .before .before .before .before .before .if2 .taken) (event _ _ _ _ (c .before .before .before .before .smc-import .ensures)))
 
 smc-export-requires : tie.Need-smc-export-requires
 smc-export-requires c κs = search needs
@@ -46,7 +46,7 @@ same-length-7 c = search needs
 
 returns-3 : tie.Need-returns-3
 unfolding called
-returns-3 c = eq-not _ _ _ _ _ (c .before .before .before .before .before .before .before .before .before .if1 .left) (eq-not _ _ _ _ _ (c .before .before .before .before .before .before .before .before .if2 .left) (eq-is _ _ _ _ _ (c .before .before .before .before .before .before .before .if3 .taken) (event _ _ _ _ _ (c .before .before .before .before .smc-export .ensures))))
+returns-3 c = eq-not _ _ _ _ _ (c .before .before .before .before .before .before .before .before .before .if1 .left) (eq-not _ _ _ _ _ (c .before .before .before .before .before .before .before .before .if2 .left) (eq-is _ _ _ _ _ (c .before .before .before .before .before .before .before .if3 .taken) (event _ _ _ _ (c .before .before .before .before .smc-export .ensures))))
 
 smc-reset-requires : tie.Need-smc-reset-requires
 smc-reset-requires c κs = search needs
@@ -59,7 +59,7 @@ same-length-9 c = search needs
 
 returns-4 : tie.Need-returns-4
 unfolding called
-returns-4 c = eq-not _ _ _ _ _ (c .before .before .before .before .before .before .before .before .before .if1 .left) (eq-not _ _ _ _ _ (c .before .before .before .before .before .before .before .before .if2 .left) (eq-not _ _ _ _ _ (c .before .before .before .before .before .before .before .if3 .left) (event _ _ _ _ _ (c .before .before .before .before .smc-reset .ensures))))
+returns-4 c = eq-not _ _ _ _ _ (c .before .before .before .before .before .before .before .before .before .if1 .left) (eq-not _ _ _ _ _ (c .before .before .before .before .before .before .before .before .if2 .left) (eq-not _ _ _ _ _ (c .before .before .before .before .before .before .before .if3 .left) (event _ _ _ _ (c .before .before .before .before .smc-reset .ensures))))
 
 pub enter-spec : {M : Type 1} → statement M
 enter-spec =

@@ -4,6 +4,8 @@ use borrow.Author.Tests.{not-true, not-false}
 use Rattle.rules.specs.Tables.{lent}
 use Rattle.rules.specs.Events.{importing, atPort}
 use Rattle.rules.proofs.Ladder.{no}
+use Rattle.rules.proofs.Soundness.{sound-true}
+use Rattle.steps.proofs.Supply.{head-room, records}
 use Rattle.changer.proofs.Ends.{number-ends, import-is}
 use borrow.Author.Needs.{needs}
 use Rattle.changer.proofs.smc_import.Statement.{statement}
@@ -23,10 +25,10 @@ same-length-2 c = search needs
 
 returns : tie.Need-returns
 unfolding importing atPort
-returns c = number-ends (lent _ _ _ _) _ 1 _ _ (c .numbered .ensures) (no _ _ _ _ _ (c .before .before .sound .ensures) (not-true _ (c .before .if1 .taken)) refl) ∙ import-is _ _ _
+returns c = number-ends (lent _ _ _) _ 1 _ _ (c .numbered .ensures) (no _ _ _ _ _ (c .before .before .sound .ensures) (not-true _ (c .before .if1 .taken)) refl) ∙ import-is _ _ _
 
 import-requires : tie.Need-import-requires
-import-requires c κs = sym (c .before .before .before .sound .ensures) ∙ not-false _ (c .before .before .if1 .left)
+import-requires c κs = let s = sym (c .before .before .before .sound .ensures) ∙ not-false _ (c .before .before .if1 .left) in (head-room _ _ _ s, (records _ _ _ s, sound-true (lent _ _ _) s .rest-fits .labels-fit .volumes-most))
 
 same-length-3 : tie.Need-same-length-3
 same-length-3 c = search needs
@@ -35,7 +37,7 @@ same-length-4 : tie.Need-same-length-4
 same-length-4 c = search needs
 
 returns-2 : tie.Need-returns-2
-returns-2 c = c .before .before .before .before .import .ensures ∙ import-is _ _ _
+returns-2 c = c .before .before .before .before .import .ensures _ refl (sym (c .before .before .before .before .before .before .before .before .sound .ensures) ∙ not-false _ (c .before .before .before .before .before .before .before .if1 .left)) ∙ import-is _ _ _
 
 pub smc-import-spec : {M : Type 1} → statement M
 smc-import-spec =

@@ -2,20 +2,15 @@
 use mathlib.Core.Path.{ap, _∙_}
 use mathlib.Core.List.{[]}
 use Rattle.rules.specs.Order.{outcome}
-use Rattle.rules.proofs.Soundness.{sound-true, elements-length}
-use Rattle.events.proofs.Judging.{head-length}
 use borrow.Author.Needs.{needs}
 use Rattle.events.proofs.import.Statement.{statement}
 use Rattle.events.proofs.import.Tie as tie
 
 judge-import-requires : tie.Need-judge-import-requires
-judge-import-requires c κs =
-    let sure = c .before .before .before .before .before .before .pre in
-    let s = sound-true _ sure in
-    (head-length _ sure, (elements-length _ s, s .labels-fit .volumes-most))
+judge-import-requires c κs = search needs
 
 settle-requires : tie.Need-settle-requires
-settle-requires c κs = (head-length _ (c .before .before .before .before .before .before .before .before .before .pre), c .before .before .judge-import .ensures .1)
+settle-requires c κs = (search needs, c .before .before .judge-import .ensures .1)
 
 same-length : tie.Need-same-length
 same-length c = search needs
@@ -24,11 +19,10 @@ same-length-2 : tie.Need-same-length-2
 same-length-2 c = search needs
 
 returns : tie.Need-returns
-returns c =
+returns c = λ rest e s.
     let settled = c .before .before .before .before in
     let judged = settled .before .before .before in
-    let began = judged .before .before .before .before .before .before .before in
-    settled .settle .ensures _ _ ∙ ap (outcome _ []) (judged .judge-import .ensures .0 _ (began .pre))
+    settled .settle .ensures rest ∙ ap (outcome _ []) (judged .judge-import .ensures .0 rest e s)
 
 pub import-spec : {M : Type 1} → statement M
 import-spec =

@@ -18,7 +18,7 @@ enum-told c = search needs
 
 returns : tie.Need-returns
 unfolding meaning exporting
-returns c = ((λ tags blank s. elsewhere _ _ s _ (c .before .before .port-at .ensures) (c .enum-told .given .1) _), tt)
+returns c = ((λ rest s. elsewhere _ _ s _ (c .before .before .port-at .ensures) (c .enum-told .given .1) _), tt)
 
 mask-requires : tie.Need-mask-requires
 mask-requires c κs = search needs
@@ -32,7 +32,7 @@ returns-2 c =
     let looked = c .before .before in
     let found = looked .before .before in
     rw (c .prevented .ensures)
-    ((λ tags blank s. locked _ _ s _ (found .before .before .port-at .ensures) _ (found .place .given .1) _ (looked .mask .ensures) (c .before .if1 .taken) _), tt)
+    ((λ rest s. locked _ _ s _ (found .before .before .port-at .ensures) _ (found .place .given .1) _ (looked .mask .ensures) (c .before .if1 .taken) _), tt)
 
 volume-requires : tie.Need-volume-requires
 volume-requires c κs =
@@ -45,7 +45,7 @@ returns-3 c =
     let read = c .before in
     let looked = read .before .before in
     let found = looked .before .before in
-    ((λ tags blank s. export-empty _ _ s _ (found .before .before .port-at .ensures) _ (found .place .given .1) _ (looked .mask .ensures) (read .before .if1 .left) _ (read .volume .ensures) (c .if2 .taken)), tt)
+    ((λ rest s. export-empty _ _ s _ (found .before .before .port-at .ensures) _ (found .place .given .1) _ (looked .mask .ensures) (read .before .if1 .left) _ (read .volume .ensures) (c .if2 .taken)), tt)
 
 returns-4 : tie.Need-returns-4
 unfolding meaning
@@ -53,7 +53,7 @@ returns-4 c =
     let read = c .before in
     let looked = read .before .before in
     let found = looked .before .before in
-    ((λ tags blank s. export-full _ _ s _ (found .before .before .port-at .ensures) _ (found .place .given .1) _ (looked .mask .ensures) (read .before .if1 .left) _ (read .volume .ensures) (c .if2 .left)), port-within _ _ _ (found .before .before .port-at .ensures) _ (found .place .given .1) _ (found .before .before .before .before .before .pre .1))
+    ((λ rest s. export-full _ _ s _ (found .before .before .port-at .ensures) _ (found .place .given .1) _ (looked .mask .ensures) (read .before .if1 .left) _ (read .volume .ensures) (c .if2 .left)), port-within _ _ _ (found .before .before .port-at .ensures) _ (found .place .given .1) _ (found .before .before .before .before .before .pre .1))
 
 pub judge-export-spec : {M : Type 1} → statement M
 judge-export-spec =

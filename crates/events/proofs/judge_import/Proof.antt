@@ -1,6 +1,8 @@
 -- `events::judge_import` meets its contract. Assumes nothing.
 use native.Mathlib.Omega.{arith}
+use mathlib.Core.Path.{refl}
 use mathlib.Core.List.{[]}
+use Rattle.rules.specs.Tables.{labels}
 use Rattle.rules.specs.Events.{importing}
 use Rattle.events.specs.Judged.{meaning}
 use Rattle.events.proofs.Ports.{port-within, port-room}
@@ -20,7 +22,7 @@ enum-told c = search needs
 
 returns : tie.Need-returns
 unfolding meaning importing
-returns c = ((λ blank s. elsewhere _ _ s _ (c .before .before .port-at .ensures) (c .enum-told .given .1) _), tt)
+returns c = ((λ rest e s. elsewhere _ _ s _ (c .before .before .port-at .ensures) (c .enum-told .given .1) _), tt)
 
 mask-requires : tie.Need-mask-requires
 mask-requires c κs = search needs
@@ -34,7 +36,7 @@ returns-2 c =
     let looked = c .before .before in
     let found = looked .before .before in
     rw (c .prevented .ensures)
-    ((λ blank s. locked _ _ s _ (found .before .before .port-at .ensures) _ (found .place .given .1) _ (looked .mask .ensures) (c .before .if1 .taken) _), tt)
+    ((λ rest e s. locked _ _ s _ (found .before .before .port-at .ensures) _ (found .place .given .1) _ (looked .mask .ensures) (c .before .if1 .taken) _), tt)
 
 volume-requires : tie.Need-volume-requires
 volume-requires c κs =
@@ -47,7 +49,7 @@ returns-3 c =
     let read = c .before in
     let looked = read .before .before in
     let found = looked .before .before in
-    ((λ blank s. import-full _ _ s _ (found .before .before .port-at .ensures) _ (found .place .given .1) _ (looked .mask .ensures) (read .before .if1 .left) _ (read .volume .ensures) _ (c .if2 .taken)), tt)
+    ((λ rest e s. import-full _ _ s _ (found .before .before .port-at .ensures) _ (found .place .given .1) _ (looked .mask .ensures) (read .before .if1 .left) _ (read .volume .ensures) _ (c .if2 .taken)), tt)
 
 wrong-volume-requires : tie.Need-wrong-volume-requires
 wrong-volume-requires c κs = search needs
@@ -59,10 +61,10 @@ returns-4 c =
     let read = asked .before .before in
     let looked = read .before .before in
     let found = looked .before .before in
-    ((λ blank s. import-wrong _ _ s _ (found .before .before .port-at .ensures) _ (found .place .given .1) _ (looked .mask .ensures) (read .before .if1 .left) _ (read .volume .ensures) _ (asked .before .if2 .left) _ (asked .wrong-volume .ensures _ blank) (c .if3 .taken)), tt)
+    ((λ rest e s. import-wrong _ _ s _ (found .before .before .port-at .ensures) _ (found .place .given .1) _ (looked .mask .ensures) (read .before .if1 .left) _ (read .volume .ensures) _ (asked .before .if2 .left) _ (asked .wrong-volume .ensures _ rest e) (c .if3 .taken)), tt)
 
 cast-t10 : tie.Need-cast-t10
-cast-t10 c = omega (arith, right-small _ _ _ (c .before .wrong-volume .ensures [] []) (c .if3 .left))
+cast-t10 c = omega (arith, right-small _ _ _ (c .before .wrong-volume .ensures [] (labels _ []) refl) (c .if3 .left))
 
 returns-5 : tie.Need-returns-5
 unfolding meaning
@@ -71,7 +73,7 @@ returns-5 c =
     let read = asked .before .before in
     let looked = read .before .before in
     let found = looked .before .before in
-    ((λ blank s. import-right _ _ s _ (found .before .before .port-at .ensures) _ (found .place .given .1) _ (looked .mask .ensures) (read .before .if1 .left) _ (read .volume .ensures) _ (asked .before .if2 .left) _ (asked .wrong-volume .ensures _ blank) (c .if3 .left)), port-within _ _ _ (found .before .before .port-at .ensures) _ (found .place .given .1) _ (found .before .before .before .before .before .before .pre .1 .0))
+    ((λ rest e s. import-right _ _ s _ (found .before .before .port-at .ensures) _ (found .place .given .1) _ (looked .mask .ensures) (read .before .if1 .left) _ (read .volume .ensures) _ (asked .before .if2 .left) _ (asked .wrong-volume .ensures _ rest e) (c .if3 .left)), port-within _ _ _ (found .before .before .port-at .ensures) _ (found .place .given .1) _ (found .before .before .before .before .before .before .pre .1 .0))
 
 pub judge-import-spec : {M : Type 1} → statement M
 judge-import-spec =

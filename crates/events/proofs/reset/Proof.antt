@@ -1,22 +1,20 @@
 -- `events::reset` meets its contract. Assumes nothing.
-use native.Mathlib.Omega.{arith}
-use Rattle.events.proofs.Judging.{head-length}
 use Rattle.events.proofs.Resets.{reset-ends}
 use borrow.Author.Needs.{needs}
 use Rattle.events.proofs.reset.Statement.{statement}
 use Rattle.events.proofs.reset.Tie as tie
 
 hold-unit-requires : tie.Need-hold-unit-requires
-hold-unit-requires c κs = head-length _ (c .before .before .before .before .before .pre)
+hold-unit-requires c κs = search needs
 
 free-requires : tie.Need-free-requires
 free-requires c κs = search needs
 
 set-mask-requires : tie.Need-set-mask-requires
-set-mask-requires c κs = omega (arith, head-length _ (c .before .before .before .before .before .before .before .before .before .before .before .before .before .pre))
+set-mask-requires c κs = search needs
 
 restart-requires : tie.Need-restart-requires
-restart-requires c κs = omega (arith, head-length _ (c .before .before .before .before .before .before .before .before .before .before .before .before .before .before .before .before .before .pre))
+restart-requires c κs = search needs
 
 told-requires : tie.Need-told-requires
 told-requires c κs = search needs
@@ -28,13 +26,12 @@ same-length-2 : tie.Need-same-length-2
 same-length-2 c = search needs
 
 returns : tie.Need-returns
-returns c =
+returns c = λ rest s.
     let restarted = c .before .before .before in
     let allowed = restarted .before .before .before .before in
     let freed = allowed .before .before .before .before in
     let unheld = freed .before .before .before .before in
-    let began = unheld .before .before .before .before .before .before in
-    reset-ends _ _ _ _ _ (unheld .hold-unit .ensures) (freed .free .ensures) (allowed .set-mask .ensures) (restarted .restart .ensures) (began .pre) _ (c .told .ensures)
+    reset-ends _ _ _ _ _ (unheld .hold-unit .ensures) (freed .free .ensures) (allowed .set-mask .ensures) (restarted .restart .ensures) s _ (c .told .ensures)
 
 pub reset-spec : {M : Type 1} → statement M
 reset-spec =

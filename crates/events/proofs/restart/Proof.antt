@@ -33,8 +33,8 @@ same-length : tie.Need-same-length Inv-loop μ-loop
 same-length c = c .before .loop .inv .kept
 
 returns : tie.Need-returns Inv-loop μ-loop
-returns c = λ elements tags blank.
-    rw (end _ _ _ _ _ _ (c .before .loop .inv) (omega arith)) (restarted-is hosts 1 _ elements tags blank)
+returns c = λ elements rest.
+    rw (end _ _ _ _ _ _ (c .before .loop .inv) (omega arith)) (restarted-is hosts 1 _ elements rest)
 
 pub restart-spec : {M : Type 1} → statement M
 restart-spec =

@@ -33,11 +33,11 @@ told-requires c κs = search needs
 
 returns : tie.Need-returns
 unfolding meaning outcome
-returns c = λ tags blank. rw (c .before .before .ruling .given .1, c .numbered .ensures)
+returns c = λ rest. rw (c .before .before .ruling .given .1, c .numbered .ensures)
 
 returns-2 : tie.Need-returns-2
 unfolding meaning outcome
-returns-2 c = λ tags blank. rw (c .before .ruling2 .given .1)
+returns-2 c = λ rest. rw (c .before .ruling2 .given .1)
 
 same-length : tie.Need-same-length
 same-length c = search needs
@@ -47,7 +47,7 @@ same-length-2 c = search needs
 
 returns-3 : tie.Need-returns-3
 unfolding meaning outcome done changes change inHead inElements put
-returns-3 c = λ tags blank.
+returns-3 c = λ rest.
     let announced = c .before .before .before in
     let filled = announced .before .before .before .before in
     rw (filled .before .before .before .ruling3 .given .1, c .told .ensures, announced .announce .ensures, filled .fill .ensures)

@@ -23,10 +23,10 @@ same-length c = search needs
 
 returns : tie.Need-returns
 unfolding prevent preventMasks
-returns c elements tags blank buffer =
+returns c elements rest buffer =
     let k = c .before .before in
     let t = k .before .before in
-    ends-as _ buffer (k .check .ensures elements tags blank buffer) (yes _ _ _ _ _ (t .before .stray .ensures) (t .if1 .taken) refl)
+    ends-as _ buffer (k .check .ensures elements rest buffer) (yes _ _ _ _ _ (t .before .stray .ensures) (t .if1 .taken) refl)
 
 mask-requires : tie.Need-mask-requires
 mask-requires c κs = search needs
@@ -45,14 +45,14 @@ same-length-2 c = search needs
 
 returns-2 : tie.Need-returns-2
 unfolding preventMasks changes change inHead inElements
-returns-2 c elements tags blank buffer =
+returns-2 c elements rest buffer =
     let s = c .before .before in
     let g = s .before .before .before .before in
     let m = g .before .before in
     let t = m .before .before .before in
-    good-with _ _ _ _ tags blank buffer _ (g .good2 .ensures elements tags blank buffer) (Prevent _ ∷ []) _ _ _
+    good-with _ _ _ _ rest buffer _ (g .good2 .ensures elements rest buffer) (Prevent _ ∷ []) _ _ _
     (prevents _ _ _ _ _ _ (t .before .stray .ensures) (t .if1 .left) (m .before .mask .ensures) (m .new-mask .ensures))
-    (both _ _ _ _ tags blank (s .set-mask .ensures) refl)
+    (both _ _ _ _ rest (s .set-mask .ensures) refl)
 
 pub prevent-allow-spec : {M : Type 1} → statement M
 prevent-allow-spec =

@@ -24,10 +24,10 @@ same-length c = search needs
 
 returns : tie.Need-returns
 unfolding release releaseMasks
-returns c tags blank buffer =
+returns c rest buffer =
     let k = c .before .before in
     let t = k .before .before in
-    ends-as _ buffer (k .check .ensures _ tags blank buffer) (yes _ _ _ _ _ (t .before .stray .ensures) (t .if1 .taken) refl)
+    ends-as _ buffer (k .check .ensures _ rest buffer) (yes _ _ _ _ _ (t .before .stray .ensures) (t .if1 .taken) refl)
 
 shared-slice-read-if2 : tie.Need-shared-slice-read-if2
 shared-slice-read-if2 c = search needs
@@ -43,11 +43,11 @@ same-length-3 c = search needs
 
 returns-2 : tie.Need-returns-2
 unfolding releaseMasks byte
-returns-2 c tags blank buffer =
+returns-2 c rest buffer =
     let u = c .before .before .before .before in
     let i = u .before .before .before in
     let e = i .before .before in
-    ends-as _ buffer (u .release-unit .ensures tags blank buffer) (releases-all _ _ _ _ (e .before .stray .ensures) (e .if1 .left) (i .if2 .taken))
+    ends-as _ buffer (u .release-unit .ensures rest buffer) (releases-all _ _ _ _ (e .before .stray .ensures) (e .if1 .left) (i .if2 .taken))
 
 shared-slice-read-t12 : tie.Need-shared-slice-read-t12
 shared-slice-read-t12 c = search needs
@@ -66,14 +66,14 @@ same-length-5 c = search needs
 
 returns-3 : tie.Need-returns-3
 unfolding releaseMasks byte changes change inHead inElements
-returns-3 c tags blank buffer =
+returns-3 c rest buffer =
     let g = c .before .before in
     let f = g .before .before .before .before in
     let i = f .before .before .before in
     let e = i .before .before in
-    good-with _ _ _ _ tags blank buffer _ (g .good2 .ensures _ tags blank buffer) (Free (Under _ _) ∷ []) _ _ _
+    good-with _ _ _ _ rest buffer _ (g .good2 .ensures _ rest buffer) (Free (Under _ _) ∷ []) _ _ _
     (releases-id _ _ _ _ (e .before .stray .ensures) (e .if1 .left) (i .if2 .left))
-    (both _ _ _ _ tags blank refl (f .free .ensures))
+    (both _ _ _ _ rest refl (f .free .ensures))
 
 pub release-spec : {M : Type 1} → statement M
 release-spec =

@@ -27,14 +27,14 @@ same-length-2 c = search needs
 
 returns : tie.Need-returns
 unfolding changes change inHead inElements
-returns c tags blank buffer =
+returns c rest buffer =
     let u = c .before .before in
     let f = u .before .before .before .before .before in
     let g = f .before .before .before .before in
     let n = g .before .before in
-    good-with _ _ _ _ tags blank buffer _ (g .good2 .ensures _ tags blank buffer) (HoldUnit 0 ∷ Free (Every _) ∷ []) _ _ _
+    good-with _ _ _ _ rest buffer _ (g .good2 .ensures _ rest buffer) (HoldUnit 0 ∷ Free (Every _) ∷ []) _ _ _
     (unit-own _ _ _ (n .unit .ensures) (u .before .before .if1 .taken))
-    (both _ _ _ _ tags blank (u .hold-unit .ensures) (f .free .ensures))
+    (both _ _ _ _ rest (u .hold-unit .ensures) (f .free .ensures))
 
 same-length-3 : tie.Need-same-length-3
 same-length-3 c = search needs
@@ -44,13 +44,13 @@ same-length-4 c = search needs
 
 returns-2 : tie.Need-returns-2
 unfolding changes change inHead inElements
-returns-2 c tags blank buffer =
+returns-2 c rest buffer =
     let f = c .before .before .before in
     let g = f .before .before .before .before in
     let n = g .before .before in
-    good-with _ _ _ _ tags blank buffer _ (g .good2 .ensures _ tags blank buffer) (Free (Every _) ∷ []) _ _ _
+    good-with _ _ _ _ rest buffer _ (g .good2 .ensures _ rest buffer) (Free (Every _) ∷ []) _ _ _
     (unit-not _ _ _ (n .unit .ensures) (c .if1 .left))
-    (both _ _ _ _ tags blank refl (f .free .ensures))
+    (both _ _ _ _ rest refl (f .free .ensures))
 
 pub release-unit-spec : {M : Type 1} → statement M
 release-unit-spec =

@@ -60,10 +60,10 @@ same-length-2 c = search needs
 
 returns : tie.Need-returns
 unfolding meaning
-returns c tags blank buffer =
+returns c rest buffer =
     let k = c .before .before in
     let j = k .before .before .before .before .before in
-    ends-as _ buffer (k .check .ensures _ tags blank buffer) (decided _ _ _ tags blank _ _ _ _ _ (j .before .before .ranges .ensures) (j .judge-reserve .ensures .0) (k .before .before .before .ruling .given .1))
+    ends-as _ buffer (k .check .ensures _ rest buffer) (decided _ _ _ rest _ _ _ _ _ (j .before .before .ranges .ensures) (j .judge-reserve .ensures .0) (k .before .before .before .ruling .given .1))
 
 same-length-3 : tie.Need-same-length-3
 same-length-3 c = search needs
@@ -73,10 +73,10 @@ same-length-4 c = search needs
 
 returns-2 : tie.Need-returns-2
 unfolding meaning
-returns-2 c tags blank buffer =
+returns-2 c rest buffer =
     let k = c .before .before in
     let j = k .before .before .before .before in
-    ends-as _ buffer (k .conflict .ensures _ tags blank buffer) (decided _ _ _ tags blank _ _ _ _ _ (j .before .before .ranges .ensures) (j .judge-reserve .ensures .0) (k .before .before .enum-told .given .1))
+    ends-as _ buffer (k .conflict .ensures _ rest buffer) (decided _ _ _ rest _ _ _ _ _ (j .before .before .ranges .ensures) (j .judge-reserve .ensures .0) (k .before .before .enum-told .given .1))
 
 same-length-5 : tie.Need-same-length-5
 same-length-5 c = search needs
@@ -86,13 +86,13 @@ same-length-6 c = search needs
 
 returns-3 : tie.Need-returns-3
 unfolding meaning changes change inHead inElements
-returns-3 c tags blank buffer =
+returns-3 c rest buffer =
     let u = c .before .before in
     let g = u .before .before .before .before in
     let j = g .before .before .before .before in
-    good-with _ _ _ _ tags blank buffer _ (g .good2 .ensures _ tags blank buffer) (HoldUnit _ ∷ []) _ _ _
-    (decided _ _ _ tags blank _ _ _ _ _ (j .before .before .ranges .ensures) (j .judge-reserve .ensures .0) (g .before .before .enum-told2 .given .1))
-    (both _ _ _ _ tags blank (u .hold-unit .ensures) refl)
+    good-with _ _ _ _ rest buffer _ (g .good2 .ensures _ rest buffer) (HoldUnit _ ∷ []) _ _ _
+    (decided _ _ _ rest _ _ _ _ _ (j .before .before .ranges .ensures) (j .judge-reserve .ensures .0) (g .before .before .enum-told2 .given .1))
+    (both _ _ _ _ rest (u .hold-unit .ensures) refl)
 
 same-length-7 : tie.Need-same-length-7
 same-length-7 c = search needs
@@ -102,14 +102,14 @@ same-length-8 c = search needs
 
 returns-4 : tie.Need-returns-4
 unfolding meaning byte
-returns-4 c tags blank buffer =
+returns-4 c rest buffer =
     let g = c .before .before in
     let a = g .before .before .before .before in
     let j = a .before .before .before .before .before in
     let m = j .before .before .ranges .ensures in
-    good-with _ _ _ _ tags blank buffer _ (g .good3 .ensures _ tags blank buffer) _ _ _ _
-    (decided _ _ _ tags blank _ _ _ _ _ m (j .judge-reserve .ensures .0) (a .before .before .before .enum-told3 .given .1))
-    (grant-ends _ _ _ tags blank _ _ _ _ _ m (a .grant .ensures))
+    good-with _ _ _ _ rest buffer _ (g .good3 .ensures _ rest buffer) _ _ _ _
+    (decided _ _ _ rest _ _ _ _ _ m (j .judge-reserve .ensures .0) (a .before .before .before .enum-told3 .given .1))
+    (grant-ends _ _ _ rest _ _ _ _ _ m (a .grant .ensures))
 
 pub reserve-spec : {M : Type 1} → statement M
 reserve-spec =

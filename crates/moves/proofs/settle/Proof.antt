@@ -26,7 +26,7 @@ same-length-2 c = search needs
 
 returns : tie.Need-returns
 unfolding meaning
-returns c = λ tags blank buffer. rw (c .before .before .before .before .before .before .before .before .before .before .ruling .given .1) (moved-ends _ _ _ _ _ tags blank buffer _ _ (c .before .before .good2 .ensures) _ _ _ (c .before .before .before .before .before .before .before .word-at .ensures) (c .before .before .before .before .before .before .carry .ensures))
+returns c = λ rest buffer. rw (c .before .before .before .before .before .before .before .before .before .before .ruling .given .1) (moved-ends _ _ _ _ _ rest buffer _ _ (c .before .before .good2 .ensures) _ _ _ (c .before .before .before .before .before .before .before .word-at .ensures) (c .before .before .before .before .before .before .carry .ensures))
 
 enum-known-ruling-2 : tie.Need-enum-known-ruling-2
 enum-known-ruling-2 c = search needs
@@ -51,7 +51,7 @@ same-length-4 c = search needs
 
 returns-2 : tie.Need-returns-2
 unfolding meaning
-returns-2 c = λ tags blank buffer. rw (c .before .before .before .before .before .before .before .before .before .before .before .ruling2 .given .1) (exchanged-ends _ _ _ _ _ tags blank buffer _ _ (c .before .before .good3 .ensures) _ _ _ _ _ (c .before .before .before .before .before .before .before .before .word-at2 .ensures) (c .before .before .before .before .before .before .before .word-at3 .ensures) (c .before .before .before .before .before .before .swap .ensures))
+returns-2 c = λ rest buffer. rw (c .before .before .before .before .before .before .before .before .before .before .before .ruling2 .given .1) (exchanged-ends _ _ _ _ _ rest buffer _ _ (c .before .before .good3 .ensures) _ _ _ _ _ (c .before .before .before .before .before .before .before .before .word-at2 .ensures) (c .before .before .before .before .before .before .before .word-at3 .ensures) (c .before .before .before .before .before .before .swap .ensures))
 
 enum-known-ruling-3 : tie.Need-enum-known-ruling-3
 enum-known-ruling-3 c = search needs
@@ -64,7 +64,7 @@ same-length-5 c = search needs
 
 returns-3 : tie.Need-returns-3
 unfolding meaning
-returns-3 c = λ tags blank buffer. rw (c .before .before .before .before .before .ruling3 .given .1) (c .before .before .check .ensures _ tags blank buffer)
+returns-3 c = λ rest buffer. rw (c .before .before .before .before .before .ruling3 .given .1) (c .before .before .check .ensures _ rest buffer)
 
 enum-told : tie.Need-enum-told
 enum-told c = search needs
@@ -77,7 +77,7 @@ same-length-6 c = search needs
 
 returns-4 : tie.Need-returns-4
 unfolding meaning
-returns-4 c = λ tags blank buffer. rw (c .before .before .before .before .enum-told .given .1) (c .before .before .conflict .ensures _ tags blank buffer)
+returns-4 c = λ rest buffer. rw (c .before .before .before .before .enum-told .given .1) (c .before .before .conflict .ensures _ rest buffer)
 
 pub settle-spec : {M : Type 1} → statement M
 settle-spec =

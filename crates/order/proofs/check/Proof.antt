@@ -14,7 +14,7 @@ same-length : tie.Need-same-length
 same-length c = search needs
 
 returns : tie.Need-returns
-returns c elements tags blank buffer = check-ends _ _ _ _ _ _ _ (c .before .before .before .note .ensures) elements tags blank buffer (c .told .ensures)
+returns c elements rest buffer = check-ends _ _ _ _ _ _ _ (c .before .before .before .note .ensures) elements rest buffer (c .told .ensures)
 
 pub check-spec : {M : Type 1} → statement M
 check-spec = tie.close (tie.spec note-requires told-requires same-length returns)

@@ -14,7 +14,7 @@ same-length : tie.Need-same-length
 same-length c = search needs
 
 returns : tie.Need-returns
-returns c elements tags blank buffer = conflict-ends _ _ _ _ (c .before .before .before .wipe .ensures) elements tags blank buffer (c .told .ensures)
+returns c elements rest buffer = conflict-ends _ _ _ _ (c .before .before .before .wipe .ensures) elements rest buffer (c .told .ensures)
 
 pub conflict-spec : {M : Type 1} → statement M
 conflict-spec = tie.close (tie.spec wipe-requires told-requires same-length returns)

@@ -41,17 +41,17 @@ same-length c = search needs
 
 returns : tie.Need-returns
 unfolding meaning
-returns c = λ elements tags blank.
+returns c = λ elements rest.
     let done = c .before .before in
     let told = done .before .before in
-    by-answer _ _ _ _ _ _ _ (told .before .before .judge .ensures .0) (told .enum-told .given .1) (done .check .ensures elements tags blank _)
+    by-answer _ _ _ _ _ _ _ (told .before .before .judge .ensures .0) (told .enum-told .given .1) (done .check .ensures elements rest _)
 
 same-length-2 : tie.Need-same-length-2
 same-length-2 c = search needs
 
 returns-2 : tie.Need-returns-2
 unfolding meaning outcome
-returns-2 c = λ elements tags blank. by-answer _ _ _ _ _ _ _ (c .before .before .before .judge .ensures .0) (c .before .enum-told2 .given .1) (rw (c .numbered .ensures) refl)
+returns-2 c = λ elements rest. by-answer _ _ _ _ _ _ _ (c .before .before .before .judge .ensures .0) (c .before .enum-told2 .given .1) (rw (c .numbered .ensures) refl)
 
 same-length-3 : tie.Need-same-length-3
 same-length-3 c = search needs
@@ -61,10 +61,10 @@ same-length-4 c = search needs
 
 returns-3 : tie.Need-returns-3
 unfolding meaning
-returns-3 c = λ elements tags blank.
+returns-3 c = λ elements rest.
     let done = c .before .before .before .before in
     let told = done .before .before .before .before in
-    by-answer _ _ _ _ _ _ _ (told .before .before .judge .ensures .0) (told .count .given .1) (done .tell-attention .ensures elements tags blank)
+    by-answer _ _ _ _ _ _ _ (told .before .before .judge .ensures .0) (told .count .given .1) (done .tell-attention .ensures elements rest)
 
 same-length-5 : tie.Need-same-length-5
 same-length-5 c = search needs
@@ -74,10 +74,10 @@ same-length-6 c = search needs
 
 returns-4 : tie.Need-returns-4
 unfolding meaning
-returns-4 c = λ elements tags blank.
+returns-4 c = λ elements rest.
     let done = c .before .before .before .before in
     let told = done .before .before .before .before in
-    by-answer _ _ _ _ _ _ _ (told .before .before .judge .ensures .0) (told .count2 .given .1) (done .tell-sense .ensures elements tags blank)
+    by-answer _ _ _ _ _ _ _ (told .before .before .judge .ensures .0) (told .count2 .given .1) (done .tell-sense .ensures elements rest)
 
 pub request-sense-spec : {M : Type 1} → statement M
 request-sense-spec =

@@ -36,7 +36,7 @@ same-length-2 c = search needs
 
 returns : tie.Need-returns
 unfolding meaning inHead inElements
-returns c = λ elements tags blank.
+returns c = λ elements rest.
     let wiped = c .before .before .before in
     let told = wiped .before .before .before .before in
     let codes = told .before .before in

@@ -20,10 +20,10 @@ same-length c = search needs
 
 returns : tie.Need-returns
 unfolding ready readyMasks when
-returns c = λ elements tags blank buffer.
+returns c = λ elements rest buffer.
     let done = c .before .before in
     let tested = done .before .before in
-    rw (sym (tested .before .stray .ensures) ∙ tested .if1 .taken) (done .check .ensures elements tags blank buffer)
+    rw (sym (tested .before .stray .ensures) ∙ tested .if1 .taken) (done .check .ensures elements rest buffer)
 
 good-requires : tie.Need-good-requires
 good-requires c κs = search needs
@@ -33,10 +33,10 @@ same-length-2 c = search needs
 
 returns-2 : tie.Need-returns-2
 unfolding ready readyMasks when
-returns-2 c = λ elements tags blank buffer.
+returns-2 c = λ elements rest buffer.
     let done = c .before .before in
     let tested = done .before .before in
-    rw (sym (tested .before .stray .ensures) ∙ tested .if1 .left) (done .good2 .ensures elements tags blank buffer)
+    rw (sym (tested .before .stray .ensures) ∙ tested .if1 .left) (done .good2 .ensures elements rest buffer)
 
 pub test-unit-ready-spec : {M : Type 1} → statement M
 test-unit-ready-spec =

@@ -2,12 +2,11 @@
 use mathlib.Core.Path.{refl}
 use mathlib.Core.List.{[]}
 use Rattle.rules.specs.Bytes.{byte}
-use Rattle.rules.specs.Tables.{lent}
+use Rattle.rules.specs.Tables.{lent, bare}
 use Rattle.rules.proofs.Ladder.{eq-is, eq-not}
 use Rattle.rules.proofs.Untouched.{ready-fits, move-fits, exchange-fits, reserve-fits, prevent-fits}
 use Rattle.steps.specs.Steps.{commandBy}
 use Rattle.steps.proofs.Lengths.{some, six, twelve, last}
-use Rattle.steps.proofs.Supply.{head-room, records, ready-to-move}
 use Rattle.steps.proofs.Ends.{silent-ends, chosen-ends}
 use borrow.Author.Needs.{needs}
 use Rattle.steps.proofs.command.Statement.{statement}
@@ -15,22 +14,22 @@ use Rattle.steps.proofs.command.Tie as tie
 
 shared-slice-read-op : tie.Need-shared-slice-read-op
 unfolding byte
-shared-slice-read-op c = some _ (c .before .before .before .before .before .before .before .before .pre .1 .1 .0)
+shared-slice-read-op c = search (needs, some)
 
 test-unit-ready-requires : tie.Need-test-unit-ready-requires
 unfolding byte
-test-unit-ready-requires c κs = (head-room _ _ _ _ (c .before .before .before .before .before .before .before .before .before .before .pre .0), (c .before .before .before .before .before .before .before .before .before .before .pre .1 .0 .1, six _ 0x00 (c .before .before .before .before .before .before .before .before .before .before .pre .1 .1 .0) (c .before .if1 .taken) refl))
+test-unit-ready-requires c κs = (search needs, (search needs, search (needs, six 0x00 refl)))
 
 same-length : tie.Need-same-length
 same-length c = search needs
 
 returns : tie.Need-returns
 unfolding commandBy byte
-returns c = silent-ends _ _ _ _ _ (eq-is _ _ _ _ _ (c .before .before .before .before .if1 .taken) refl) (ready-fits (lent [] [] [] []) _ _ _) (c .before .before .test-unit-ready .ensures _ _ _ _)
+returns c = λ rest e d. silent-ends _ _ _ _ _ (eq-is _ _ _ _ _ (c .before .before .before .before .if1 .taken) refl) (ready-fits (lent [] [] bare) _ _ _) (c .before .before .test-unit-ready .ensures _ _ _)
 
 reserve-requires : tie.Need-reserve-requires
 unfolding byte
-reserve-requires c κs = (head-room _ _ _ _ (c .before .before .before .before .before .before .before .before .before .before .before .before .pre .0), (records _ _ _ _ (c .before .before .before .before .before .before .before .before .before .before .before .before .pre .0), (c .before .before .before .before .before .before .before .before .before .before .before .before .pre .1 .0 .1, six _ 0x16 (c .before .before .before .before .before .before .before .before .before .before .before .before .pre .1 .1 .0) (c .before .before .if2 .taken) refl)))
+reserve-requires c κs = (search needs, (search needs, (search needs, search (needs, six 0x16 refl))))
 
 same-length-2 : tie.Need-same-length-2
 same-length-2 c = search needs
@@ -40,22 +39,22 @@ same-length-3 c = search needs
 
 returns-2 : tie.Need-returns-2
 unfolding commandBy byte
-returns-2 c = silent-ends _ _ _ _ _ (eq-not _ _ _ _ _ (c .before .before .before .before .before .before .before .before .if1 .left) (eq-is _ _ _ _ _ (c .before .before .before .before .before .before .before .if2 .taken) refl)) (reserve-fits _ _ _ _ _) (c .before .before .before .before .reserve .ensures _ _ _)
+returns-2 c = λ rest e d. silent-ends _ _ _ _ _ (eq-not _ _ _ _ _ (c .before .before .before .before .before .before .before .before .if1 .left) (eq-is _ _ _ _ _ (c .before .before .before .before .before .before .before .if2 .taken) refl)) (reserve-fits _ _ _ _ _) (c .before .before .before .before .reserve .ensures _ _)
 
 prevent-allow-requires : tie.Need-prevent-allow-requires
 unfolding byte
-prevent-allow-requires c κs = (head-room _ _ _ _ (c .before .before .before .before .before .before .before .before .before .before .before .before .pre .0), (c .before .before .before .before .before .before .before .before .before .before .before .before .pre .1 .0 .0, (c .before .before .before .before .before .before .before .before .before .before .before .before .pre .1 .0 .1, six _ 0x1E (c .before .before .before .before .before .before .before .before .before .before .before .before .pre .1 .1 .0) (c .before .if3 .taken) refl)))
+prevent-allow-requires c κs = (search needs, (search needs, (search needs, search (needs, six 0x1E refl))))
 
 same-length-4 : tie.Need-same-length-4
 same-length-4 c = search needs
 
 returns-3 : tie.Need-returns-3
 unfolding commandBy byte
-returns-3 c = silent-ends _ _ _ _ _ (eq-not _ _ _ _ _ (c .before .before .before .before .before .before .if1 .left) (eq-not _ _ _ _ _ (c .before .before .before .before .before .if2 .left) (eq-is _ _ _ _ _ (c .before .before .before .before .if3 .taken) refl))) (prevent-fits _ _ _ _) (c .before .before .prevent-allow .ensures _ _ _ _)
+returns-3 c = λ rest e d. silent-ends _ _ _ _ _ (eq-not _ _ _ _ _ (c .before .before .before .before .before .before .if1 .left) (eq-not _ _ _ _ _ (c .before .before .before .before .before .if2 .left) (eq-is _ _ _ _ _ (c .before .before .before .before .if3 .taken) refl))) (prevent-fits _ _ _ _) (c .before .before .prevent-allow .ensures _ _ _)
 
 move-medium-requires : tie.Need-move-medium-requires
 unfolding byte
-move-medium-requires c κs = (ready-to-move _ _ _ _ (c .before .before .before .before .before .before .before .before .before .before .before .before .before .before .pre .0), (c .before .before .before .before .before .before .before .before .before .before .before .before .before .before .pre .1 .0 .1, twelve _ 0xA5 (c .before .before .before .before .before .before .before .before .before .before .before .before .before .before .pre .1 .1 .0) (c .before .before .if4 .taken) refl))
+move-medium-requires c κs = (search needs, (search needs, search (needs, twelve 0xA5 refl)))
 
 same-length-5 : tie.Need-same-length-5
 same-length-5 c = search needs
@@ -65,11 +64,11 @@ same-length-6 c = search needs
 
 returns-4 : tie.Need-returns-4
 unfolding commandBy byte
-returns-4 c = silent-ends _ _ _ _ _ (eq-not _ _ _ _ _ (c .before .before .before .before .before .before .before .before .before .before .if1 .left) (eq-not _ _ _ _ _ (c .before .before .before .before .before .before .before .before .before .if2 .left) (eq-not _ _ _ _ _ (c .before .before .before .before .before .before .before .before .if3 .left) (eq-is _ _ _ _ _ (c .before .before .before .before .before .before .before .if4 .taken) refl)))) (move-fits _ _ _ _) (c .before .before .before .before .move-medium .ensures _ _ _)
+returns-4 c = λ rest e d. silent-ends _ _ _ _ _ (eq-not _ _ _ _ _ (c .before .before .before .before .before .before .before .before .before .before .if1 .left) (eq-not _ _ _ _ _ (c .before .before .before .before .before .before .before .before .before .if2 .left) (eq-not _ _ _ _ _ (c .before .before .before .before .before .before .before .before .if3 .left) (eq-is _ _ _ _ _ (c .before .before .before .before .before .before .before .if4 .taken) refl)))) (move-fits _ _ _ _) (c .before .before .before .before .move-medium .ensures _ _)
 
 exchange-medium-requires : tie.Need-exchange-medium-requires
 unfolding byte
-exchange-medium-requires c κs = (ready-to-move _ _ _ _ (c .before .before .before .before .before .before .before .before .before .before .before .before .before .before .before .pre .0), (c .before .before .before .before .before .before .before .before .before .before .before .before .before .before .before .pre .1 .0 .1, twelve _ 0xA6 (c .before .before .before .before .before .before .before .before .before .before .before .before .before .before .before .pre .1 .1 .0) (c .before .before .if5 .taken) refl))
+exchange-medium-requires c κs = (search needs, (search needs, search (needs, twelve 0xA6 refl)))
 
 same-length-7 : tie.Need-same-length-7
 same-length-7 c = search needs
@@ -79,11 +78,11 @@ same-length-8 c = search needs
 
 returns-5 : tie.Need-returns-5
 unfolding commandBy byte
-returns-5 c = silent-ends _ _ _ _ _ (eq-not _ _ _ _ _ (c .before .before .before .before .before .before .before .before .before .before .before .if1 .left) (eq-not _ _ _ _ _ (c .before .before .before .before .before .before .before .before .before .before .if2 .left) (eq-not _ _ _ _ _ (c .before .before .before .before .before .before .before .before .before .if3 .left) (eq-not _ _ _ _ _ (c .before .before .before .before .before .before .before .before .if4 .left) (eq-is _ _ _ _ _ (c .before .before .before .before .before .before .before .if5 .taken) refl))))) (exchange-fits _ _ _ _) (c .before .before .before .before .exchange-medium .ensures _ _ _)
+returns-5 c = λ rest e d. silent-ends _ _ _ _ _ (eq-not _ _ _ _ _ (c .before .before .before .before .before .before .before .before .before .before .before .if1 .left) (eq-not _ _ _ _ _ (c .before .before .before .before .before .before .before .before .before .before .if2 .left) (eq-not _ _ _ _ _ (c .before .before .before .before .before .before .before .before .before .if3 .left) (eq-not _ _ _ _ _ (c .before .before .before .before .before .before .before .before .if4 .left) (eq-is _ _ _ _ _ (c .before .before .before .before .before .before .before .if5 .taken) refl))))) (exchange-fits _ _ _ _) (c .before .before .before .before .exchange-medium .ensures _ _)
 
 read-element-status-requires : tie.Need-read-element-status-requires
 unfolding byte
-read-element-status-requires c κs = (c .before .before .before .before .before .before .before .before .before .before .before .before .before .before .before .before .pre .0, (c .before .before .before .before .before .before .before .before .before .before .before .before .before .before .before .before .pre .1 .0, twelve _ 0xB8 (c .before .before .before .before .before .before .before .before .before .before .before .before .before .before .before .before .pre .1 .1 .0) (last _ (c .before .before .before .before .before .before .before .before .before .before .before .before .before .before .before .before .pre .1 .1 .1 .0) (c .before .before .before .before .before .before .before .if1 .left) (c .before .before .before .before .before .before .before .before .before .before .before .before .before .before .before .before .pre .1 .1 .1 .1 .0) (c .before .before .before .before .before .before .if2 .left) (c .before .before .before .before .before .before .before .before .before .before .before .before .before .before .before .before .pre .1 .1 .1 .1 .1) (c .before .before .before .before .before .if3 .left) (c .before .before .before .before .if4 .left) (c .before .before .before .if5 .left)) refl))
+read-element-status-requires c κs = (search needs, (search needs, (search needs, search (needs, twelve 0xB8 refl, last))))
 
 same-length-9 : tie.Need-same-length-9
 same-length-9 c = search needs
@@ -96,7 +95,7 @@ same-length-11 c = search needs
 
 returns-6 : tie.Need-returns-6
 unfolding commandBy byte
-returns-6 c = chosen-ends _ _ _ _ _ (eq-not _ _ _ _ _ (c .before .before .before .before .before .before .before .before .before .before .before .before .if1 .left) (eq-not _ _ _ _ _ (c .before .before .before .before .before .before .before .before .before .before .before .if2 .left) (eq-not _ _ _ _ _ (c .before .before .before .before .before .before .before .before .before .before .if3 .left) (eq-not _ _ _ _ _ (c .before .before .before .before .before .before .before .before .before .if4 .left) (eq-not _ _ _ _ _ (c .before .before .before .before .before .before .before .before .if5 .left) (refl)))))) (c .before .before .before .before .read-element-status .ensures)
+returns-6 c = λ rest e d. chosen-ends _ _ _ _ _ (eq-not _ _ _ _ _ (c .before .before .before .before .before .before .before .before .before .before .before .before .if1 .left) (eq-not _ _ _ _ _ (c .before .before .before .before .before .before .before .before .before .before .before .if2 .left) (eq-not _ _ _ _ _ (c .before .before .before .before .before .before .before .before .before .before .if3 .left) (eq-not _ _ _ _ _ (c .before .before .before .before .before .before .before .before .before .if4 .left) (eq-not _ _ _ _ _ (c .before .before .before .before .before .before .before .before .if5 .left) (refl)))))) (c .before .before .before .before .read-element-status .ensures rest e d)
 
 pub command-spec : {M : Type 1} → statement M
 command-spec =

@@ -2,10 +2,9 @@
 use mathlib.Core.Path.{refl}
 use mathlib.Core.List.{[]}
 use Rattle.rules.specs.Bytes.{byte}
-use Rattle.rules.specs.Tables.{lent}
+use Rattle.rules.specs.Tables.{lent, bare}
 use Rattle.sense.proofs.Guards.{pending}
 use Rattle.steps.specs.Steps.{guardedBy}
-use Rattle.steps.proofs.Supply.{head-room}
 use Rattle.steps.proofs.Guards.{held-is, open-is}
 use Rattle.steps.proofs.Ends.{silent-ends, chosen-ends, attention-fits}
 use borrow.Author.Needs.{needs}
@@ -14,28 +13,28 @@ use Rattle.steps.proofs.guarded.Tie as tie
 
 judge-requires : tie.Need-judge-requires
 unfolding byte
-judge-requires c κs = (head-room _ _ _ _ (c .before .before .before .before .before .before .before .before .pre .0), c .before .before .before .before .before .before .before .before .pre .1 .0 .1)
+judge-requires c κs = (search needs, search needs)
 
 enum-told : tie.Need-enum-told
 enum-told c = search needs
 
 tell-attention-requires : tie.Need-tell-attention-requires
 unfolding byte
-tell-attention-requires c κs = (head-room _ _ _ _ (c .before .before .before .before .before .before .before .before .before .before .before .before .pre .0), (c .before .before .before .before .before .before .before .before .before .before .before .before .pre .1 .0 .1, pending (lent _ [] [] []) _ _ (c .before .before .before .judge .ensures) (c .before .enum-told .given .1)))
+tell-attention-requires c κs = (search needs, (search needs, pending (lent _ [] bare) _ _ (c .before .before .before .judge .ensures) (c .before .enum-told .given .1)))
 
 same-length : tie.Need-same-length
 same-length c = search needs
 
 returns : tie.Need-returns
 unfolding guardedBy byte
-returns c = silent-ends _ _ _ _ _ refl (attention-fits _ _ _ _ (pending (lent _ [] [] []) _ _ (c .before .before .before .before .before .before .judge .ensures) (c .before .before .before .before .enum-told .given .1))) (c .before .before .tell-attention .ensures _ _ _ _ _)
+returns c = λ rest e d. silent-ends _ _ _ _ _ refl (attention-fits _ _ _ _ (pending (lent _ [] bare) _ _ (c .before .before .before .before .before .before .judge .ensures) (c .before .before .before .before .enum-told .given .1))) (c .before .before .tell-attention .ensures _ _ _ _)
 
 enum-told-2 : tie.Need-enum-told-2
 enum-told-2 c = search needs
 
 held-requires : tie.Need-held-requires
 unfolding byte
-held-requires c κs = (head-room _ _ _ _ (c .before .before .before .before .before .before .before .before .before .before .before .before .before .pre .0), (c .before .before .before .before .before .before .before .before .before .before .before .before .before .pre .1 .0 .1, c .before .before .before .before .before .before .before .before .before .before .before .before .before .pre .1 .1 .0))
+held-requires c κs = (search needs, (search needs, search needs))
 
 same-length-2 : tie.Need-same-length-2
 same-length-2 c = search needs
@@ -45,7 +44,7 @@ same-length-3 c = search needs
 
 returns-2 : tie.Need-returns-2
 unfolding guardedBy byte
-returns-2 c = chosen-ends _ _ _ _ _ (held-is (lent _ _ _ _) _ _ _ _ (c .before .before .before .before .before .before .before .before .before .judge .ensures) (c .before .before .before .before .before .before .before .enum-told2 .given .1)) (c .before .before .before .before .held .ensures _ _ _)
+returns-2 c = λ rest e d. chosen-ends _ _ _ _ _ (held-is (lent _ _ _) _ _ _ _ (c .before .before .before .before .before .before .before .before .before .judge .ensures) (c .before .before .before .before .before .before .before .enum-told2 .given .1)) (c .before .before .before .before .held .ensures _ _)
 
 enum-told-3 : tie.Need-enum-told-3
 enum-told-3 c = search needs
@@ -65,7 +64,7 @@ same-length-6 c = search needs
 
 returns-3 : tie.Need-returns-3
 unfolding guardedBy byte
-returns-3 c = chosen-ends _ _ _ _ _ (open-is (lent _ _ _ _) _ _ _ _ (c .before .before .before .before .before .before .before .before .before .before .before .before .judge .ensures) (c .before .before .before .before .before .before .before .before .before .before .enum-told3 .given .1)) (c .before .before .before .before .before .before .admitted .ensures)
+returns-3 c = λ rest e d. chosen-ends _ _ _ _ _ (open-is (lent _ _ _) _ _ _ _ (c .before .before .before .before .before .before .before .before .before .before .before .before .judge .ensures) (c .before .before .before .before .before .before .before .before .before .before .enum-told3 .given .1)) (c .before .before .before .before .before .before .admitted .ensures rest e d)
 
 pub guarded-spec : {M : Type 1} → statement M
 guarded-spec =

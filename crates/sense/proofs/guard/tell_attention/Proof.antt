@@ -28,7 +28,7 @@ same-length c = search needs
 
 returns : tie.Need-returns
 unfolding outcome afterAttention changes change inHead inElements put when
-returns c = λ elements tags blank buffer rest.
+returns c = λ elements rest buffer later.
     let cleared = c .before .before .before in
     let noted = cleared .before .before .before .before in
     let codes = noted .before .before in

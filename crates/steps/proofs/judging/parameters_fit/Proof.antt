@@ -15,7 +15,7 @@ shared-slice-read-op c = some _ (c .before .before .before .pre)
 
 word-at-requires : tie.Need-word-at-requires
 unfolding byte
-word-at-requires c κs = rw (six _ 0x16 (c .before .before .before .before .pre) (c .if1 .taken) refl) (omega arith)
+word-at-requires c κs = rw (six 0x16 refl _ (c .if1 .taken) (c .before .before .before .before .pre)) (omega arith)
 
 cast-result : tie.Need-cast-result
 cast-result c = search needs
