@@ -1,0 +1,87 @@
+// The layout of the lent tables: every size, offset and limit of the code. The rules have the same numbers in `Tables` and `Sound`; docs/LAYOUT.md shows them.
+ghost use mathlib.Core.Path.{_≡_};
+ghost use Rattle.rules.specs.Tables.{hostAt, attentionAt};
+
+// ---- the head
+
+pub const HEAD_SIZE: usize = HOST_RECORDS + HOST_RECORD * (HOSTS as usize);
+
+// "Four ranges of 4 bytes, each first address and count"
+pub const RANGES: usize = 4;
+
+pub const RANGE_SIZE: usize = 4;
+
+pub const RANGE_COUNT: usize = 2;
+
+// "Byte 16: unit holder"; "Byte 17: prevent mask"
+pub const UNIT: usize = 16;
+
+pub const MASK: usize = 17;
+
+// "Then for each host 5 bytes: sense key, ASC, ASCQ .., attention ASC, ASCQ"
+pub const HOSTS: u8 = 8;
+
+pub const HOST_RECORDS: usize = 18;
+
+pub const HOST_RECORD: usize = 5;
+
+pub const ATTENTION: usize = 3;
+
+// ---- an element
+
+pub const ELEMENT_SIZE: usize = 8;
+
+pub const SOURCE: usize = 2;
+
+pub const HOLDER: usize = 4;
+
+pub const ID: usize = 5;
+
+pub const MARK: usize = 6;
+
+pub const ZERO: usize = 7;
+
+// ---- the labels
+
+pub const TAG_SIZE: usize = 36;
+
+// ---- the type codes
+
+pub const TRANSPORT: u8 = 1;
+
+pub const STORAGE: u8 = 2;
+
+pub const PORT: u8 = 3;
+
+pub const DRIVE: u8 = 4;
+
+// ---- the limits of sound tables
+
+pub const MOST_ELEMENTS: usize = 512;
+
+pub const MOST_TRANSPORTS: usize = 127;
+
+pub const MOST_VOLUMES: usize = 512;
+
+// the address behind the last that a range may have
+pub const BEHIND_LAST: u32 = 65536;
+
+// ---- RESERVE's list: "1 to 32 descriptors of 6 bytes"
+
+pub const DESCRIPTOR_SIZE: usize = 6;
+
+pub const MOST_DESCRIPTORS: usize = 32;
+
+// Where a host's record begins.
+pub fn host_at(host: u8) -> usize
+    ensures { λ r. ⌜ r ≡ hostAt host ⌝ }
+{
+    (HOST_RECORDS - HOST_RECORD) + HOST_RECORD * (host as usize)
+}
+
+// Where its attention stands.
+pub fn attention_at(host: u8) -> usize
+    ensures { λ r. ⌜ r ≡ attentionAt host ⌝ }
+{
+    ATTENTION + host_at(host)
+}
