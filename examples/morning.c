@@ -5,18 +5,33 @@
 
 #define ELEMENTS 7
 
-static uint8_t head[SMC_HEAD_BYTES];
-static uint8_t elements[ELEMENTS * SMC_ELEMENT_BYTES];
-static uint8_t tags[3 * SMC_TAG_BYTES];
-static uint8_t blank[SMC_TAG_BYTES];
+static uint8_t head[SMC_HEAD_SIZE];
+static uint8_t elements[ELEMENTS * SMC_ELEMENT_SIZE];
+static uint8_t tags[3 * SMC_TAG_SIZE];
+static uint8_t blank[SMC_TAG_SIZE];
 static uint8_t answer[512];
 
-#define TABLES head, sizeof head, elements, sizeof elements, tags, sizeof tags, blank, sizeof blank
+static const smc_tables tables = {
+    .head = head,
+    .head_len = sizeof head,
+    .elements = elements,
+    .elements_len = sizeof elements,
+    .tags = tags,
+    .tags_len = sizeof tags,
+    .blank = blank,
+    .blank_len = sizeof blank,
+};
 
 static void put16(uint8_t *at, unsigned value)
 {
     at[0] = (uint8_t)(value >> 8);
     at[1] = (uint8_t)value;
+}
+
+static void put_range(int type, unsigned first, unsigned count)
+{
+    put16(head + SMC_RANGE_AT(type) + SMC_RANGE_FIRST, first);
+    put16(head + SMC_RANGE_AT(type) + SMC_RANGE_COUNT, count);
 }
 
 /* A label: the barcode, filled up with blanks to 32 characters, and four zeros. */
@@ -30,16 +45,15 @@ static void write_label(uint8_t *at, const char *barcode)
 /* The tables lie in address order: 0001h transport, 0010h import/export, 0100h drive, 1000h to 1003h shelves. */
 static void build_library(void)
 {
-    static const unsigned ranges[4][2] = {{0x0001, 1}, {0x1000, 4}, {0x0010, 1}, {0x0100, 1}};
-    for (int k = 0; k < 4; k++) {
-        put16(head + 4 * k, ranges[k][0]);
-        put16(head + 4 * k + 2, ranges[k][1]);
-    }
-    put16(elements + 3 * SMC_ELEMENT_BYTES, 1); /* volume 1 at 1000h */
-    put16(elements + 5 * SMC_ELEMENT_BYTES, 2); /* volume 2 at 1002h */
+    put_range(SMC_TRANSPORT, 0x0001, 1);
+    put_range(SMC_STORAGE, 0x1000, 4);
+    put_range(SMC_IMPORT_EXPORT, 0x0010, 1);
+    put_range(SMC_DRIVE, 0x0100, 1);
+    put16(elements + 3 * SMC_ELEMENT_SIZE + SMC_ELEMENT_VOLUME, 1); /* volume 1 at 1000h */
+    put16(elements + 5 * SMC_ELEMENT_SIZE + SMC_ELEMENT_VOLUME, 2); /* volume 2 at 1002h */
     write_label(tags, "FILM01L8");
-    write_label(tags + SMC_TAG_BYTES, "FILM02L8");
-    write_label(tags + 2 * SMC_TAG_BYTES, "FILM03L8");
+    write_label(tags + SMC_TAG_SIZE, "FILM02L8");
+    write_label(tags + 2 * SMC_TAG_SIZE, "FILM03L8");
     memset(blank, ' ', sizeof blank);
 }
 
@@ -59,12 +73,12 @@ static void say(const char *what, smc_reply reply)
 
 static smc_reply send(unsigned host, const uint8_t *block, size_t length, const uint8_t *list, size_t list_length)
 {
-    return smc_command(TABLES, host, block, length, list, list_length, answer, sizeof answer);
+    return smc_command(SMC_LEND(&tables), host, block, length, list, list_length, answer, sizeof answer);
 }
 
 static smc_reply move(unsigned host, unsigned from, unsigned to)
 {
-    uint8_t block[12] = {0xA5};
+    uint8_t block[12] = {SMC_MOVE_MEDIUM};
     put16(block + 4, from);
     put16(block + 6, to);
     return send(host, block, sizeof block, NULL, 0);
@@ -72,40 +86,45 @@ static smc_reply move(unsigned host, unsigned from, unsigned to)
 
 static smc_reply reserve(unsigned host, unsigned id, unsigned address)
 {
-    uint8_t block[6] = {0x16, 1, (uint8_t)id, 0, 6, 0};
-    uint8_t list[6] = {0, 0, 0, 1};
-    put16(list + 4, address);
+    uint8_t block[6] = {SMC_RESERVE, 1, (uint8_t)id, 0, SMC_LIST_DESCRIPTOR_SIZE, 0};
+    uint8_t list[SMC_LIST_DESCRIPTOR_SIZE] = {0};
+    put16(list + SMC_LIST_NUMBER, 1);
+    put16(list + SMC_LIST_ADDRESS, address);
     return send(host, block, sizeof block, list, sizeof list);
 }
 
 static void tell_sense(unsigned host)
 {
-    static const uint8_t block[6] = {0x03, 0, 0, 0, 18, 0};
+    static const uint8_t block[6] = {SMC_REQUEST_SENSE, 0, 0, 0, SMC_SENSE_SIZE, 0};
     smc_reply reply = send(host, block, sizeof block, NULL, 0);
-    if (reply.number == 0 && reply.count == 18)
-        printf("%50s %u is told %X/%02X/%02X\n", "host", host, answer[2], answer[12], answer[13]);
+    if (reply.number == 0 && reply.count == SMC_SENSE_SIZE)
+        printf("%50s %u is told %X/%02X/%02X\n", "host", host, answer[SMC_SENSE_KEY], answer[SMC_SENSE_ASC],
+               answer[SMC_SENSE_ASCQ]);
 }
 
 static smc_reply list_shelves(unsigned host, size_t room)
 {
-    uint8_t block[12] = {0xB8, 0x12, 0, 0, 0xFF, 0xFF};
-    put16(block + 8, 8 + 8 + 4 * 52);
-    return smc_read_element_status(TABLES, host, block, sizeof block, NULL, 0, answer, room);
+    uint8_t block[12] = {SMC_READ_ELEMENT_STATUS, 0x10 | SMC_STORAGE, 0, 0, 0xFF, 0xFF};
+    put16(block + 8, SMC_LISTING_HEADER_SIZE + SMC_PAGE_HEADER_SIZE + 4 * SMC_TAGGED_DESCRIPTOR_SIZE);
+    return smc_read_element_status(SMC_LEND(&tables), host, block, sizeof block, NULL, 0, answer, room);
 }
 
 static void print_listing(smc_reply reply)
 {
-    printf("%50s %d shelves, %d bytes of pages in all\n", "listed:", answer[2] * 256 + answer[3],
-           answer[5] * 65536 + answer[6] * 256 + answer[7]);
-    for (const uint8_t *d = answer + 16; d + 52 <= answer + reply.count; d += 52)
-        printf("%50s %02X%02Xh %s %.8s\n", "", d[0], d[1], d[2] & 1 ? "full " : "empty", (const char *)d + 12);
+    const uint8_t *number = answer + SMC_LISTING_NUMBER, *bytes = answer + SMC_LISTING_BYTES;
+    printf("%50s %d shelves, %d bytes of pages in all\n", "listed:", number[0] * 256 + number[1],
+           bytes[0] * 65536 + bytes[1] * 256 + bytes[2]);
+    const uint8_t *d = answer + SMC_LISTING_HEADER_SIZE + SMC_PAGE_HEADER_SIZE;
+    for (; d + SMC_TAGGED_DESCRIPTOR_SIZE <= answer + reply.count; d += SMC_TAGGED_DESCRIPTOR_SIZE)
+        printf("%50s %02X%02Xh %s %.8s\n", "", d[0], d[1], d[SMC_DESCRIPTOR_FLAGS] & SMC_FLAG_FULL ? "full " : "empty",
+               (const char *)d + SMC_DESCRIPTOR_LABEL);
 }
 
 int main(void)
 {
-    static const uint8_t ready[6] = {0x00};
+    static const uint8_t ready[6] = {SMC_TEST_UNIT_READY};
     build_library();
-    say("The operator imports volume 3 at 0010h:", smc_import(TABLES, 0x0010, 3));
+    say("The operator imports volume 3 at 0010h:", smc_import(SMC_LEND(&tables), 0x0010, 3));
     say("Host 1 asks whether the unit is ready:", send(1, ready, sizeof ready, NULL, 0));
     tell_sense(1);
     say("Host 1 moves volume 3 from 0010h to shelf 1001h:", move(1, 0x0010, 0x1001));

@@ -1,13 +1,29 @@
-/* The command core of a tape library, for a front end in C. Link with libchanger.a.
+/* The command core of a tape library, for a front end in C or C++. Link with libchanger.a.
+ *
+ * docs/RULES.md says what every call ends with, docs/LAYOUT.md shows the bytes of the lent tables and of the answers.
  *
  * What a caller may rely on, for any bytes, any lengths and any numbers:
  * - Every call returns. It reads and writes nothing outside the lent slices; a slice of length 0 may be a null pointer.
- * - number 0: the call was carried out; status, count, the tables and the answer are as document 01 says.
+ * - number 0: the call was carried out; status, count, the tables and the answer are as the rules say.
  * - number 1 to 9: the call was refused; no byte of head, elements or answer has changed, and status and count are 0.
  * - CHECK CONDITION (02h) and RESERVATION CONFLICT (18h) change no element, and of the head only the calling host's five bytes.
  * - Bytes of the answer past count are as they were. count is above 0 only for GOOD of REQUEST SENSE and READ ELEMENT STATUS.
  * - tags and blank are never written. Sound tables stay sound.
- * The core keeps nothing between two calls: all it knows is in the tables. Calls on the same tables must not run at the same time.
+ *
+ * What a caller owes:
+ * - Each pointer is valid for its length: readable, and head, elements and answer writable. Length 0 asks nothing of its pointer.
+ * - No two of the lent slices overlap.
+ * - No two calls at once on the same tables, and nobody writes a lent slice while a call runs.
+ *
+ * What the library is:
+ * - x86-64 code for the System V calling convention (Linux). Of other symbols it needs memcpy and memset alone.
+ * - No slice needs an alignment. It has no state, no heap and no locks: all it knows between two calls is in the tables. Threads may call it
+ *   at once on separate tables.
+ * - A call takes less than 2 KB of stack (1.5 to 1.6 measured). In a program that binds symbols lazily the first call takes about 4.6 KB,
+ *   once: the dynamic linker's look-up of memset. Linked with -static or -Wl,-z,now it does not.
+ * - Every call first checks all tables. Measured, in processor time, the best of 41 runs of 1,000 calls that all ended GOOD: a readiness
+ *   test takes about 0.1 microseconds at 7 elements and 2.2 at 512; at 512, MOVE and EXCHANGE take no more than can be told from that, a
+ *   whole listing with tags 3.4, and a RESERVE of 32 descriptors, the dearest call found, 33.
  */
 #ifndef SMC_H
 #define SMC_H
@@ -19,6 +35,9 @@
 extern "C" {
 #endif
 
+/* The interface's version. It rises with each change that moves a layout, lends a further table or adds an entry. */
+#define SMC_INTERFACE 0
+
 typedef struct {
     uint8_t number;     /* house number, 0 for none */
     uint8_t status;     /* SCSI status; 0 where number is not 0, and for events */
@@ -27,7 +46,7 @@ typedef struct {
     uint32_t count;     /* bytes returned in the answer buffer */
 } smc_reply;
 
-/* House numbers, in the order in which they are tested. */
+/* House numbers, in the order in which they are tested; SMC_ANSWER_TOO_SHORT comes after the steps of a command. */
 enum {
     SMC_TABLES_NOT_SOUND = 1,
     SMC_UNKNOWN_HOST = 2,       /* host is not 1 to 8 */
@@ -42,11 +61,94 @@ enum {
 
 enum { SMC_GOOD = 0x00, SMC_CHECK_CONDITION = 0x02, SMC_RESERVATION_CONFLICT = 0x18 };
 
-/* Sizes of the lent tables: the head; a record of elements; a tag; the blank label. */
-enum { SMC_HEAD_BYTES = 58, SMC_ELEMENT_BYTES = 8, SMC_TAG_BYTES = 36 };
+/* The first bytes of the command blocks. */
+enum {
+    SMC_TEST_UNIT_READY = 0x00,
+    SMC_REQUEST_SENSE = 0x03,
+    SMC_RESERVE = 0x16,
+    SMC_RELEASE = 0x17,
+    SMC_PREVENT_ALLOW = 0x1E,
+    SMC_MOVE_MEDIUM = 0xA5,
+    SMC_EXCHANGE_MEDIUM = 0xA6,
+    SMC_READ_ELEMENT_STATUS = 0xB8
+};
+
+/* The types of elements; READ ELEMENT STATUS takes 0 for all. */
+enum { SMC_TRANSPORT = 1, SMC_STORAGE = 2, SMC_IMPORT_EXPORT = 3, SMC_DRIVE = 4 };
+
+/* ---- Sizes and offsets in bytes, and limits. Numbers in slices have their high byte first. */
+
+/* The head: a range for each type, the unit's holder, the prevent mask, a record for each host. */
+#define SMC_HEAD_SIZE 58
+#define SMC_RANGES 4
+#define SMC_RANGE_SIZE 4
+#define SMC_RANGE_AT(type) (SMC_RANGE_SIZE * ((type) - 1))
+#define SMC_RANGE_FIRST 0      /* in a range: first address, two bytes */
+#define SMC_RANGE_COUNT 2      /* how many elements, two bytes */
+#define SMC_HEAD_UNIT 16
+#define SMC_HEAD_MASK 17
+#define SMC_HEAD_HOSTS 18      /* the record of host 1 */
+#define SMC_HOSTS 8
+#define SMC_HOST_SIZE 5
+#define SMC_HOST_AT(host) (SMC_HEAD_HOSTS + SMC_HOST_SIZE * ((host) - 1))
+#define SMC_HOST_KEY 0         /* in a host's record: the sense */
+#define SMC_HOST_ASC 1
+#define SMC_HOST_ASCQ 2
+#define SMC_HOST_ATTENTION 3   /* the attention's ASC and ASCQ */
+#define SMC_HOST_ATTENTIONQ 4
+
+/* A record of elements. */
+#define SMC_ELEMENT_SIZE 8
+#define SMC_ELEMENT_VOLUME 0   /* two bytes */
+#define SMC_ELEMENT_SOURCE 2   /* two bytes */
+#define SMC_ELEMENT_HOLDER 4
+#define SMC_ELEMENT_ID 5
+#define SMC_ELEMENT_MARK 6
+#define SMC_ELEMENT_ZERO 7
+#define SMC_MOST_ELEMENTS 512
+#define SMC_MOST_TRANSPORTS 127
+#define SMC_MOST_ADDRESS 65535
+
+/* A record of tags; the blank label. */
+#define SMC_TAG_SIZE 36
+#define SMC_MOST_VOLUMES 512
+
+/* A descriptor of RESERVE's list. */
+#define SMC_LIST_DESCRIPTOR_SIZE 6
+#define SMC_LIST_NUMBER 2      /* two bytes */
+#define SMC_LIST_ADDRESS 4     /* two bytes */
+#define SMC_MOST_LIST_DESCRIPTORS 32
+
+/* Sense data. */
+#define SMC_SENSE_SIZE 18
+#define SMC_SENSE_KEY 2
+#define SMC_SENSE_ASC 12
+#define SMC_SENSE_ASCQ 13
+
+/* A listing: its header, a page's header, a descriptor. */
+#define SMC_LISTING_HEADER_SIZE 8
+#define SMC_LISTING_FIRST 0    /* first address, two bytes */
+#define SMC_LISTING_NUMBER 2   /* elements chosen, two bytes */
+#define SMC_LISTING_BYTES 5    /* bytes of all pages, three bytes */
+#define SMC_PAGE_HEADER_SIZE 8
+#define SMC_PAGE_TYPE 0
+#define SMC_PAGE_TAGS 1        /* 80h with labels */
+#define SMC_PAGE_WIDTH 2       /* bytes of a descriptor, two bytes */
+#define SMC_PAGE_BYTES 5       /* bytes of its descriptors, three bytes */
+#define SMC_PLAIN_DESCRIPTOR_SIZE 16
+#define SMC_TAGGED_DESCRIPTOR_SIZE 52
+#define SMC_DESCRIPTOR_ADDRESS 0       /* two bytes */
+#define SMC_DESCRIPTOR_FLAGS 2
+#define SMC_DESCRIPTOR_SOURCE_STANDS 9 /* 80h if a source stands */
+#define SMC_DESCRIPTOR_SOURCE 10       /* two bytes */
+#define SMC_DESCRIPTOR_LABEL 12        /* 36 bytes, with tags */
+#define SMC_FLAG_FULL 0x01
+#define SMC_FLAG_MARKED 0x02   /* a person put the volume there */
 
 /* The largest answer: 512 elements in four pages, with tags. */
-enum { SMC_LARGEST_ANSWER = 26664 };
+#define SMC_LARGEST_ANSWER 26664
+
+/* ---- What a call is lent. */
 
 /* The lent tables. No two of the lent slices overlap. head, elements and answer may change; tags and blank are read only. */
 #define SMC_TABLES                                                                                                    \
@@ -56,20 +158,67 @@ enum { SMC_LARGEST_ANSWER = 26664 };
     uint32_t host, const uint8_t *block, size_t block_len, const uint8_t *parameters, size_t parameters_len,          \
         uint8_t *answer, size_t answer_len
 
-/* Any command block. The eight below it answer exactly the same, whatever first byte they are handed. */
+/* The same tables as one value. SMC_LEND(&t) spreads it into the first arguments of a call: smc_reset(SMC_LEND(&t)). A front end that
+ * lends its tables so keeps its calls as they are when a later version lends further tables. Its argument is read more than once. */
+typedef struct {
+    uint8_t *head;
+    size_t head_len;
+    uint8_t *elements;
+    size_t elements_len;
+    const uint8_t *tags;
+    size_t tags_len;
+    const uint8_t *blank;
+    size_t blank_len;
+} smc_tables;
+
+#define SMC_LEND(t)                                                                                                   \
+    (t)->head, (t)->head_len, (t)->elements, (t)->elements_len, (t)->tags, (t)->tags_len, (t)->blank, (t)->blank_len
+
+/* ---- Commands. Numbers 1 to 5. */
+
+/* Any command block. The eight below it answer exactly the same, whatever first byte they are handed. An unknown first byte is
+ * CHECK CONDITION with 5/20/00. */
 smc_reply smc_command(SMC_TABLES, SMC_COMMAND);
+
+/* GOOD, unless attention is pending, another host holds the unit, or the block has a bit without a use. Changes the calling host's record
+ * alone. */
 smc_reply smc_test_unit_ready(SMC_TABLES, SMC_COMMAND);
+
+/* Returns up to 18 bytes: the host's sense, else its attention, else zeros. What was told is cleared. Of all commands, this alone tells
+ * a pending attention with GOOD. */
 smc_reply smc_request_sense(SMC_TABLES, SMC_COMMAND);
+
+/* With GOOD the host holds the unit, or the elements that the list names, under an id; what it held under that id is freed first.
+ * Any other end leaves every reservation as it was. */
 smc_reply smc_reserve(SMC_TABLES, SMC_COMMAND);
+
+/* With GOOD the host no longer holds the unit and its elements, or its elements of one id. Other hosts' reservations stay. */
 smc_reply smc_release(SMC_TABLES, SMC_COMMAND);
+
+/* With GOOD the host's bit of the prevent mask is set or cleared. A set bit hinders import and export, and never a move. */
 smc_reply smc_prevent_allow(SMC_TABLES, SMC_COMMAND);
+
+/* With GOOD one volume has gone from source to destination, which now names that source. Any other end moves nothing. */
 smc_reply smc_move_medium(SMC_TABLES, SMC_COMMAND);
+
+/* With GOOD the first destination's volume is in the second, and the source's in the first: a swap, where the second is the source. Any
+ * other end moves nothing. */
 smc_reply smc_exchange_medium(SMC_TABLES, SMC_COMMAND);
+
+/* Returns a listing, in whole descriptors as many as the allocation has room for. Its counts are of all that was chosen, however small
+ * the allocation. */
 smc_reply smc_read_element_status(SMC_TABLES, SMC_COMMAND);
 
-/* A person put a volume into an import/export element, took one out, or the unit was reset. */
+/* ---- Events. Their status and count are 0, and they know no reservation. */
+
+/* A person put a volume into an import/export element. Numbers 1, 6, 7, 8, 9. It stands there with mark 1; each host that has no
+ * attention pending has 28h/01h. */
 smc_reply smc_import(SMC_TABLES, uint32_t address, uint32_t volume);
+
+/* A person took the volume out. Numbers 1, 6, 7, 8. The element is empty; attention as for import. */
 smc_reply smc_export(SMC_TABLES, uint32_t address);
+
+/* The unit was reset. Number 1. No reservation, no prevent bit and no sense is left; every host has attention 29h/00h; volumes stay. */
 smc_reply smc_reset(SMC_TABLES);
 
 #ifdef __cplusplus

@@ -4,23 +4,42 @@
 #include <stdio.h>
 #include <string.h>
 
+/* The header's sizes follow from one another. */
+_Static_assert(SMC_HEAD_SIZE == SMC_HOST_AT(SMC_HOSTS + 1) && SMC_RANGE_AT(SMC_RANGES + 1) == SMC_HEAD_UNIT, "the head");
+_Static_assert(SMC_TAGGED_DESCRIPTOR_SIZE == SMC_PLAIN_DESCRIPTOR_SIZE + SMC_TAG_SIZE, "a descriptor");
+_Static_assert(SMC_LARGEST_ANSWER == SMC_LISTING_HEADER_SIZE + SMC_RANGES * SMC_PAGE_HEADER_SIZE
+                   + SMC_MOST_ELEMENTS * SMC_TAGGED_DESCRIPTOR_SIZE, "the largest answer");
+_Static_assert(sizeof(smc_reply) == 8, "the reply");
+
 #define GUARD 16
 #define CANARY 0xC5
 
 /* A slice with canary bytes on both sides. */
 #define LENT(name, size) static uint8_t name##_room[(size) + 2 * GUARD], *const name = name##_room + GUARD
 
-LENT(head, SMC_HEAD_BYTES);
-LENT(elements, 7 * SMC_ELEMENT_BYTES);
-LENT(tags, 3 * SMC_TAG_BYTES);
-LENT(blank, SMC_TAG_BYTES);
+LENT(head, SMC_HEAD_SIZE);
+LENT(elements, 7 * SMC_ELEMENT_SIZE);
+LENT(tags, 3 * SMC_TAG_SIZE);
+LENT(blank, SMC_TAG_SIZE);
 LENT(answer, 512);
 
-static uint8_t head_before[SMC_HEAD_BYTES], elements_before[7 * SMC_ELEMENT_BYTES], answer_before[512];
-static uint8_t tags_before[3 * SMC_TAG_BYTES], blank_before[SMC_TAG_BYTES];
+static uint8_t head_before[SMC_HEAD_SIZE], elements_before[7 * SMC_ELEMENT_SIZE], answer_before[512];
+static uint8_t tags_before[3 * SMC_TAG_SIZE], blank_before[SMC_TAG_SIZE];
 static int passed, failed;
 
-#define TABLES head, SMC_HEAD_BYTES, elements, 7 * SMC_ELEMENT_BYTES, tags, 3 * SMC_TAG_BYTES, blank, SMC_TAG_BYTES
+static const smc_tables lent = {
+    .head = head_room + GUARD,
+    .head_len = SMC_HEAD_SIZE,
+    .elements = elements_room + GUARD,
+    .elements_len = 7 * SMC_ELEMENT_SIZE,
+    .tags = tags_room + GUARD,
+    .tags_len = 3 * SMC_TAG_SIZE,
+    .blank = blank_room + GUARD,
+    .blank_len = SMC_TAG_SIZE,
+};
+static const smc_tables nothing;
+
+#define TABLES SMC_LEND(&lent)
 
 static void expect(int holds, const char *call, const char *what)
 {
@@ -56,17 +75,17 @@ static int guarded(const uint8_t *room, size_t size)
 static void small_library(void)
 {
     static const unsigned ranges[4][2] = {{0x0001, 1}, {0x1000, 4}, {0x0010, 1}, {0x0100, 1}};
-    guard(head_room, SMC_HEAD_BYTES, 0);
-    guard(elements_room, 7 * SMC_ELEMENT_BYTES, 0);
-    guard(tags_room, 3 * SMC_TAG_BYTES, 0x41);
-    guard(blank_room, SMC_TAG_BYTES, 0x20);
+    guard(head_room, SMC_HEAD_SIZE, 0);
+    guard(elements_room, 7 * SMC_ELEMENT_SIZE, 0);
+    guard(tags_room, 3 * SMC_TAG_SIZE, 0x41);
+    guard(blank_room, SMC_TAG_SIZE, 0x20);
     guard(answer_room, 512, 0xEE);
     for (int k = 0; k < 4; k++) {
         put16(head + 4 * k, ranges[k][0]);
         put16(head + 4 * k + 2, ranges[k][1]);
     }
-    put16(elements + 3 * SMC_ELEMENT_BYTES, 1);
-    put16(elements + 5 * SMC_ELEMENT_BYTES, 2);
+    put16(elements + 3 * SMC_ELEMENT_SIZE, 1);
+    put16(elements + 5 * SMC_ELEMENT_SIZE, 2);
 }
 
 static void remember(void)
@@ -81,8 +100,8 @@ static void remember(void)
 /* What holds of every call: no canary touched, labels as they were, buffer as it was past the count. */
 static void always(const char *call, smc_reply reply)
 {
-    expect(guarded(head_room, SMC_HEAD_BYTES) && guarded(elements_room, 7 * SMC_ELEMENT_BYTES)
-               && guarded(tags_room, 3 * SMC_TAG_BYTES) && guarded(blank_room, SMC_TAG_BYTES) && guarded(answer_room, 512),
+    expect(guarded(head_room, SMC_HEAD_SIZE) && guarded(elements_room, 7 * SMC_ELEMENT_SIZE)
+               && guarded(tags_room, 3 * SMC_TAG_SIZE) && guarded(blank_room, SMC_TAG_SIZE) && guarded(answer_room, 512),
            call, "a byte outside a lent slice changed");
     expect(!memcmp(tags, tags_before, sizeof tags_before) && !memcmp(blank, blank_before, sizeof blank_before), call, "a label changed");
     expect(reply.count <= 512 && !memcmp(answer + reply.count, answer_before + reply.count, 512 - reply.count), call,
@@ -115,13 +134,13 @@ static void ended(const char *call, smc_reply reply, int status, uint32_t count)
 
 static void sense_is(const char *call, unsigned host, int key, int asc, int ascq)
 {
-    const uint8_t *record = head + 13 + 5 * host;
+    const uint8_t *record = head + SMC_HOST_AT(host);
     expect(record[0] == key && record[1] == asc && record[2] == ascq, call, "another sense");
 }
 
 static void element_is(const char *call, int place, unsigned volume, unsigned source, int holder, int id, int mark)
 {
-    const uint8_t *e = elements + place * SMC_ELEMENT_BYTES;
+    const uint8_t *e = elements + place * SMC_ELEMENT_SIZE;
     expect(e[0] * 256u + e[1] == volume && e[2] * 256u + e[3] == source && e[4] == holder && e[5] == id && e[6] == mark && e[7] == 0,
            call, "another element record");
 }
@@ -257,10 +276,10 @@ static void nothing_lent(void)
 {
     small_library();
     remember();
-    refused("nothing lent", smc_command(NULL, 0, NULL, 0, NULL, 0, NULL, 0, 1, NULL, 0, NULL, 0, NULL, 0), SMC_TABLES_NOT_SOUND);
-    refused("nothing lent", smc_import(NULL, 0, NULL, 0, NULL, 0, NULL, 0, 1, 1), SMC_TABLES_NOT_SOUND);
-    refused("nothing lent", smc_export(NULL, 0, NULL, 0, NULL, 0, NULL, 0, 1), SMC_TABLES_NOT_SOUND);
-    refused("nothing lent", smc_reset(NULL, 0, NULL, 0, NULL, 0, NULL, 0), SMC_TABLES_NOT_SOUND);
+    refused("nothing lent", smc_command(SMC_LEND(&nothing), 1, NULL, 0, NULL, 0, NULL, 0), SMC_TABLES_NOT_SOUND);
+    refused("nothing lent", smc_import(SMC_LEND(&nothing), 1, 1), SMC_TABLES_NOT_SOUND);
+    refused("nothing lent", smc_export(SMC_LEND(&nothing), 1), SMC_TABLES_NOT_SOUND);
+    refused("nothing lent", smc_reset(SMC_LEND(&nothing)), SMC_TABLES_NOT_SOUND);
 }
 
 int main(void)

@@ -1,11 +1,17 @@
-//! Links the command core's static library if it has been built.
+//! Links the command core's static library. A library that is missing, or older than what it is built from, ends the build with what to do.
 
+use std::collections::BTreeSet;
 use std::env;
+use std::fs;
 use std::path::{Path, PathBuf};
 use std::process::Command;
+use std::time::SystemTime;
 
-/// Another place to look for the library, before the usual one.
+/// Another library than the usual one.
 const ELSEWHERE: &str = "CHANGER_STATICLIB";
+const USUAL: &str = "target/staticlib/libchanger.a";
+const CRATE: &str = "changer";
+const BUILD_IT: &str = "run `rt staticlib changer` in the repository";
 
 const ENTRIES: [&str; 12] = [
     "smc_command",
@@ -23,20 +29,99 @@ const ENTRIES: [&str; 12] = [
 ];
 
 fn main() {
-    println!("cargo:rustc-check-cfg=cfg(have_core)");
     println!("cargo:rerun-if-env-changed={ELSEWHERE}");
-    let library = env::var_os(ELSEWHERE).map_or_else(usual_place, PathBuf::from);
+    let here = env::var_os("CARGO_MANIFEST_DIR").map_or_else(PathBuf::new, PathBuf::from);
+    let repository = here.join("../..").canonicalize().unwrap_or(here);
+    let library = match env::var_os(ELSEWHERE) {
+        Some(path) => PathBuf::from(path),
+        None => repository.join(USUAL),
+    };
     println!("cargo:rerun-if-changed={}", library.display());
-    if library.is_file() {
-        println!("cargo:rustc-cfg=have_core");
-        let out = env::var_os("OUT_DIR").map_or_else(PathBuf::new, PathBuf::from);
-        link(&isolated(&library, &out).unwrap_or(library));
+    match judge(&library, &repository) {
+        Ok(()) => {
+            let out = env::var_os("OUT_DIR").map_or_else(PathBuf::new, PathBuf::from);
+            link(&isolated(&library, &out).unwrap_or(library));
+        }
+        Err(why) => println!("cargo::error={why}"),
     }
 }
 
-fn usual_place() -> PathBuf {
-    let here = env::var_os("CARGO_MANIFEST_DIR").map_or_else(PathBuf::new, PathBuf::from);
-    here.join("../../target/staticlib/libchanger.a")
+/// What is wrong with the library, and what to do.
+fn judge(library: &Path, repository: &Path) -> Result<(), String> {
+    if library.is_relative() || !library.is_file() {
+        return Err(missing(library));
+    }
+    let Some(newer) = source_newer_than(library, repository) else {
+        return Ok(());
+    };
+    let age = format!("{} is older than {}", library.display(), newer.display());
+    if is_chosen() {
+        // It may be an older one on purpose; that is told and not refused.
+        println!("cargo::warning={ELSEWHERE}: {age}");
+        return Ok(());
+    }
+    Err(format!("{age}: {BUILD_IT}"))
+}
+
+fn is_chosen() -> bool {
+    env::var_os(ELSEWHERE).is_some()
+}
+
+fn missing(library: &Path) -> String {
+    let path = library.display();
+    match is_chosen() {
+        true if library.is_relative() => {
+            format!("{ELSEWHERE} names {path}: the path must be given whole, from / on")
+        }
+        true => format!("{ELSEWHERE} names {path}, and there is no such file: correct the path, or unset it and {BUILD_IT}"),
+        false => format!("the command core is not built, there is no {path}: {BUILD_IT}"),
+    }
+}
+
+/// A file of the crates behind the library that was changed after the library was written, the newest of them.
+fn source_newer_than(library: &Path, repository: &Path) -> Option<PathBuf> {
+    let mut newest = (changed(library)?, None);
+    for name in crates_behind(&repository.join("crates.txt")) {
+        for part in ["src", "specs", "proofs"] {
+            let folder = repository.join("crates").join(&name).join(part);
+            if folder.is_dir() {
+                println!("cargo:rerun-if-changed={}", folder.display());
+                find_newer(&folder, &mut newest);
+            }
+        }
+    }
+    newest.1
+}
+
+fn find_newer(folder: &Path, newest: &mut (SystemTime, Option<PathBuf>)) {
+    let entries = fs::read_dir(folder).into_iter().flatten().flatten();
+    for path in entries.map(|entry| entry.path()) {
+        if path.is_dir() {
+            find_newer(&path, newest);
+        } else if let Some(time) = changed(&path).filter(|time| *time > newest.0) {
+            *newest = (time, Some(path));
+        }
+    }
+}
+
+fn changed(file: &Path) -> Option<SystemTime> {
+    fs::metadata(file).and_then(|about| about.modified()).ok()
+}
+
+/// The crate and all that it stands on. A line of the listing is "NAME: what it stands on".
+fn crates_behind(listing: &Path) -> BTreeSet<String> {
+    println!("cargo:rerun-if-changed={}", listing.display());
+    let text = fs::read_to_string(listing).unwrap_or_default();
+    let mut found = BTreeSet::new();
+    let mut open = vec![CRATE.to_string()];
+    while let Some(name) = open.pop() {
+        if found.insert(name.clone()) {
+            let mut lines = text.lines().filter_map(|line| line.split_once(':'));
+            let below = lines.find(|(of, _)| *of == name).map_or("", |line| line.1);
+            open.extend(below.split_whitespace().map(String::from));
+        }
+    }
+    found
 }
 
 fn link(library: &Path) {
@@ -51,7 +136,7 @@ fn link(library: &Path) {
 fn isolated(library: &Path, out: &Path) -> Option<PathBuf> {
     let object = out.join("changer.o");
     let archive = out.join("libchanger.a");
-    let _ = std::fs::remove_file(&archive);
+    let _ = fs::remove_file(&archive);
     let needed = ENTRIES.iter().flat_map(|entry| ["-u", entry]);
     let mut join = Command::new("ld");
     join.args(["-r", "--force-group-allocation"]).args(needed);

@@ -1,7 +1,4 @@
 // Runs the case files that it is named, and prints a line for each case.
-mod lines;
-mod running;
-
 ghost use mathlib.Core.Path.{_≡_};
 ghost use lib.ListN.{length};
 
@@ -14,7 +11,7 @@ fn file_room() -> [u8; 1048576]
 
 fn main() {
     let mut file = file_room();
-    let mut room = [0u8; rooms::ROOM];
-    let mut bytes = [0u8; rooms::BYTES];
-    running::run(&mut file, &mut room, &mut bytes);
+    let mut room = [0u8; case_rooms::parts::ROOM];
+    let mut bytes = [0u8; case_rooms::parts::BYTES];
+    case_files::run(&mut file, &mut room, &mut bytes);
 }

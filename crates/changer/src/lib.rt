@@ -163,10 +163,12 @@ pub extern "C" fn smc_import<'a>(
 ) -> Reply
     ensures { λ r. ⌜ ended r (lent (now (head .exit)) (now (elements .exit)) (others (now (tags .entry)) (now (blank .entry)))) [] ≡ import (lent (now (head .entry)) (now (elements .entry)) (others (now (tags .entry)) (now (blank .entry)))) address volume ⌝ }
 {
-    if !sound::sound(head, elements, tags, blank) {
+    let checked = sound::check(head, elements, tags, blank);
+    if !checked.sound {
         return order::numbered(1);
     }
-    events::import(head, elements, tags, address, volume)
+    let runs = checked.runs;
+    events::import(runs, head, elements, tags, address, volume)
 }
 
 #[no_mangle]
@@ -179,10 +181,12 @@ pub extern "C" fn smc_export<'a>(
 ) -> Reply
     ensures { λ r. ⌜ ended r (lent (now (head .exit)) (now (elements .exit)) (others (now (tags .entry)) (now (blank .entry)))) [] ≡ export (lent (now (head .entry)) (now (elements .entry)) (others (now (tags .entry)) (now (blank .entry)))) address ⌝ }
 {
-    if !sound::sound(head, elements, tags, blank) {
+    let checked = sound::check(head, elements, tags, blank);
+    if !checked.sound {
         return order::numbered(1);
     }
-    events::export(head, elements, address)
+    let runs = checked.runs;
+    events::export(runs, head, elements, address)
 }
 
 #[no_mangle]
@@ -194,7 +198,8 @@ pub extern "C" fn smc_reset<'a>(
 ) -> Reply
     ensures { λ r. ⌜ ended r (lent (now (head .exit)) (now (elements .exit)) (others (now (tags .entry)) (now (blank .entry)))) [] ≡ reset (lent (now (head .entry)) (now (elements .entry)) (others (now (tags .entry)) (now (blank .entry)))) ⌝ }
 {
-    if !sound::sound(head, elements, tags, blank) {
+    let checked = sound::check(head, elements, tags, blank);
+    if !checked.sound {
         return order::numbered(1);
     }
     events::reset(head, elements)

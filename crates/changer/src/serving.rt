@@ -18,21 +18,26 @@ pub fn serve<'a>(
 ) -> Reply
     ensures { λ r. ⌜ ended r (lent (now (head .exit)) (now (elements .exit)) (others (now (tags .entry)) (now (blank .entry)))) (now (answer .exit)) ≡ command (lent (now (head .entry)) (now (elements .entry)) (others (now (tags .entry)) (now (blank .entry)))) host (now (block .entry)) (now (parameters .entry)) (now (answer .entry)) ⌝ }
 {
-    let whole = sound::sound(head, elements, tags, blank);
-    let known = steps::judging::known_host(host);
+    let checked = sound::check(head, elements, tags, blank);
+    let whole = checked.sound;
+    let known = admission::numbers::known_host(host);
     if !whole {
         return order::numbered(1);
     }
     if !known {
         return order::numbered(2);
     }
-    if !steps::judging::block_fits(block) {
+    if !admission::numbers::block_fits(block) {
         return order::numbered(3);
     }
-    if !steps::judging::parameters_fit(block, parameters) {
+    let op = admission::decode(block[0]);
+    if !admission::numbers::parameters_fit(op, block, parameters) {
         return order::numbered(4);
     }
+    let runs = checked.runs;
     steps::steps(
+        op,
+        runs,
         head,
         elements,
         tags,

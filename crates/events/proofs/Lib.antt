@@ -1,4 +1,2 @@
-pub mod Turns
-pub mod Ports
 pub mod Judging
 pub mod Resets

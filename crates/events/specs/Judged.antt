@@ -1,19 +1,16 @@
 -- Import and export as the code judges them, and what each answer means in the rules. Assumes nothing.
-use Prim.Native.Nat.{ℕ, _<_}
+use Prim.Native.Nat.{ℕ, _*_, _<_, _≤_}
+use mathlib.Core.Path.{_≡_}
 use mathlib.Core.List.{List, [], _∷_}
-use Rattle.rules.specs.Choice.{when, differ}
-use Rattle.rules.specs.Tables.{lent, Fill, Announce, changes, bare}
-use Rattle.rules.specs.Roster.{Slot, placeOf, kindOf, port}
+use lib.ListN.{length}
+use Rattle.rules.specs.Tables.{headSize, elementSize, mostVolumes, volumes, lent, Fill, Announce, changes, bare}
+use Rattle.rules.specs.Roster.{roster}
 use Rattle.rules.specs.Order.{Verdict, Number, Prevented}
 use Rattle.rules.specs.Events.{preventers, lowest, done, restartedFrom}
-use Rattle.tables.specs.declared.Found.{Found}
-use Rattle.tables.specs.declared.Found.the-variants.{At, Nothing}
+use Rattle.tables.specs.declared.Range.{Range}
+use Rattle.tables.specs.Ranges.{Runs}
 use Rattle.events.specs.declared.Ruling.{Ruling}
 use Rattle.events.specs.declared.Ruling.the-variants as ruling
-
--- look-up of an import/export element
-unfoldable pub portAt : List Slot → ℕ → Found
-portAt ss a = when (differ (kindOf ss a) port) Nothing (At (placeOf ss a))
 
 -- number 7 by a mask that is not 0
 abbrev pub preventedBy : ℕ → Ruling
@@ -34,3 +31,16 @@ Within n (ruling.Fill p v m) = p < n
 -- the head after one host's changes of a reset
 unfoldable pub restartedAt : ℕ → List ℕ → List ℕ
 restartedAt h head = changes (restartedFrom 1 h) (lent head [] bare) .head
+
+-- ---- what the functions ask for
+
+-- an import/export element can be looked up and reached
+pub record Ported (runs : List Range) (head elements : List ℕ) : Type 0 where
+  pub head-long : headSize ≤ length head
+  pub runs-are : Runs runs head
+  pub elements-long : length elements ≡ elementSize * length (roster head)
+
+-- and a volume number can be told
+pub record Importable (runs : List Range) (head elements tags : List ℕ) : Type 0 where
+  pub ported : Ported runs head elements
+  pub volumes-few : volumes tags ≤ mostVolumes

@@ -1,19 +1,20 @@
 // The three events: import, export and reset. House number 1 is judged before they are called; numbers 6 to 9 are judged here.
-use holds::Whose;
+use frees::Whose;
 use order::Reply;
 use tables::Found;
+use tables::Range;
+use tables::Types;
 ghost use mathlib.Core.Path.{_≡_};
 ghost use mathlib.Core.Bool.{true};
 ghost use mathlib.Core.List.{List, []};
-ghost use Prim.Native.Nat.{ℕ, _*_, _≤_};
+ghost use Prim.Native.Nat.{ℕ, _≤_};
 ghost use lib.ListN.{length};
-ghost use Rattle.rules.specs.Tables.{headSize, elementSize, hosts, places, volumes, lent, changes, announcedTo, announced, Rest};
-ghost use Rattle.rules.specs.Roster.{roster};
+ghost use Rattle.rules.specs.Tables.{headSize, hosts, places, lent, changes, announcedTo, announced, Rest};
 ghost use Rattle.rules.specs.Sound.{sound};
 ghost use Rattle.rules.specs.Order.{outcome};
 ghost use Rattle.rules.specs.Events.{present as presentIn, wrongVolume, importing, exporting, restartedFrom, resetting};
 ghost use Rattle.order.specs.Ending.{ended};
-ghost use Rattle.events.specs.Judged.{portAt, preventedBy, restartedAt, meaning, Within};
+ghost use Rattle.events.specs.Judged.{preventedBy, restartedAt, meaning, Within, Ported, Importable};
 
 // What import or export comes to: a house number, number 7 with how many hosts prevent removal and the lowest such host, or an element
 // to fill with a volume (0 empties it) and a mark.
@@ -21,21 +22,6 @@ pub enum Ruling {
     Number(u8),
     Prevented(u8, u8),
     Fill { place: usize, volume: u16, mark: u8 },
-}
-
-// The place of an import/export element.
-fn port_at(head: &[u8], address: u32) -> Found
-    requires { ⌜ headSize ≤ length (now head) ⌝ }
-    ensures { λ r. ⌜ r ≡ portAt (roster (now (head .entry))) address ⌝ }
-{
-    let rs = tables::ranges(head);
-    let Found::At(place) = tables::find(rs, address) else {
-        return Found::Nothing;
-    };
-    if tables::kind_at(rs, place) == tables::PORT {
-        return Found::At(place);
-    }
-    Found::Nothing
 }
 
 // "how many hosts prevent removal and the lowest such host"
@@ -75,52 +61,57 @@ fn wrong_volume(elements: &[u8], tags: &[u8], volume: u32) -> bool
 }
 
 // Import, judged by reading only: numbers 6 to 9 in this order.
-fn judge_import(head: &[u8], elements: &[u8], tags: &[u8], address: u32, volume: u32) -> Ruling
-    requires { ⌜ headSize ≤ length (now head) ⌝ }
-    requires { ⌜ length (now elements) ≡ elementSize * length (roster (now head)) ⌝ }
-    requires { ⌜ volumes (now tags) ≤ 512 ⌝ }
+fn judge_import(
+    runs: [Range; 4],
+    head: &[u8],
+    elements: &[u8],
+    tags: &[u8],
+    address: u32,
+    volume: u32,
+) -> Ruling
+    requires { ⌜ Importable runs (now head) (now elements) (now tags) ⌝ }
     ensures { λ r. ⌜ ((rest : Rest) → rest .tags ≡ now (tags .entry) → sound (lent (now (head .entry)) (now (elements .entry)) rest) ≡ true → meaning r ≡ importing (lent (now (head .entry)) (now (elements .entry)) rest) address volume) ⌝ }
     ensures { λ r. ⌜ Within (places (now (elements .entry))) r ⌝ }
 {
-    let Found::At(place) = port_at(head, address) else {
+    let Found::At(to) = tables::find(runs, address, Types::Port) else {
         return Ruling::Number(6);
     };
     let mask = tables::head::mask(head);
     if mask != 0 {
         return prevented(mask);
     }
-    if tables::element::volume(elements, place) != 0 {
+    if tables::element::volume(elements, to) != 0 {
         return Ruling::Number(8);
     }
     if wrong_volume(elements, tags, volume) {
         return Ruling::Number(9);
     }
+    let number = volume as u16;
     Ruling::Fill {
-        place,
-        volume: volume as u16,
+        place: to,
+        volume: number,
         mark: 1,
     }
 }
 
 // Export, judged by reading only: numbers 6 to 8 in this order.
-fn judge_export(head: &[u8], elements: &[u8], address: u32) -> Ruling
-    requires { ⌜ headSize ≤ length (now head) ⌝ }
-    requires { ⌜ length (now elements) ≡ elementSize * length (roster (now head)) ⌝ }
+fn judge_export(runs: [Range; 4], head: &[u8], elements: &[u8], address: u32) -> Ruling
+    requires { ⌜ Ported runs (now head) (now elements) ⌝ }
     ensures { λ r. ⌜ ((rest : Rest) → sound (lent (now (head .entry)) (now (elements .entry)) rest) ≡ true → meaning r ≡ exporting (lent (now (head .entry)) (now (elements .entry)) rest) address) ⌝ }
     ensures { λ r. ⌜ Within (places (now (elements .entry))) r ⌝ }
 {
-    let Found::At(place) = port_at(head, address) else {
+    let Found::At(from) = tables::find(runs, address, Types::Port) else {
         return Ruling::Number(6);
     };
     let mask = tables::head::mask(head);
     if mask != 0 {
         return prevented(mask);
     }
-    if tables::element::volume(elements, place) == 0 {
+    if tables::element::volume(elements, from) == 0 {
         return Ruling::Number(8);
     }
     Ruling::Fill {
-        place,
+        place: from,
         volume: 0,
         mark: 0,
     }
@@ -143,14 +134,14 @@ fn announce(head: &mut [u8], asc: u8, ascq: u8)
     ensures { λ _. ⌜ now (head .exit) ≡ announced (now (head .entry)) asc ascq ⌝ }
 {
     let mut host: u8 = 1;
-    while host <= tables::HOSTS {
+    while host <= layout::HOSTS {
         announce_to(head, host, asc, ascq);
         host += 1;
     }
 }
 
 // What was judged is carried out.
-fn settle(head: &mut [u8], elements: &mut [u8], ruling: Ruling) -> Reply
+fn carry_out(head: &mut [u8], elements: &mut [u8], ruling: Ruling) -> Reply
     requires { ⌜ headSize ≤ length (now head) ⌝ }
     requires { ⌜ Within (places (now elements)) ruling ⌝ }
     ensures { λ r. ⌜ ((rest : Rest) → ended r (lent (now (head .exit)) (now (elements .exit)) rest) [] ≡ outcome (lent (now (head .entry)) (now (elements .entry)) rest) [] (meaning ruling)) ⌝ }
@@ -159,7 +150,7 @@ fn settle(head: &mut [u8], elements: &mut [u8], ruling: Ruling) -> Reply
         Ruling::Number(number) => order::numbered(number),
         Ruling::Prevented(preventers, lowest) => Reply {
             number: 7,
-            status: 0,
+            status: order::GOOD,
             preventers,
             lowest,
             count: 0,
@@ -171,30 +162,34 @@ fn settle(head: &mut [u8], elements: &mut [u8], ruling: Ruling) -> Reply
         } => {
             tables::element::fill(elements, place, volume, 0, mark);
             announce(head, 0x28, 0x01);
-            order::told(0x00, 0)
+            order::told(order::GOOD, 0)
         }
     }
 }
 
 // "Import fills an element with source 0, mark 1"
-pub fn import(head: &mut [u8], elements: &mut [u8], tags: &[u8], address: u32, volume: u32) -> Reply
-    requires { ⌜ headSize ≤ length (now head) ⌝ }
-    requires { ⌜ length (now elements) ≡ elementSize * length (roster (now head)) ⌝ }
-    requires { ⌜ volumes (now tags) ≤ 512 ⌝ }
+pub fn import(
+    runs: [Range; 4],
+    head: &mut [u8],
+    elements: &mut [u8],
+    tags: &[u8],
+    address: u32,
+    volume: u32,
+) -> Reply
+    requires { ⌜ Importable runs (now head) (now elements) (now tags) ⌝ }
     ensures { λ r. ⌜ ((rest : Rest) → rest .tags ≡ now (tags .entry) → sound (lent (now (head .entry)) (now (elements .entry)) rest) ≡ true → ended r (lent (now (head .exit)) (now (elements .exit)) rest) [] ≡ outcome (lent (now (head .entry)) (now (elements .entry)) rest) [] (importing (lent (now (head .entry)) (now (elements .entry)) rest) address volume)) ⌝ }
 {
-    let ruling = judge_import(head, elements, tags, address, volume);
-    settle(head, elements, ruling)
+    let ruling = judge_import(runs, head, elements, tags, address, volume);
+    carry_out(head, elements, ruling)
 }
 
 // "export empties it, mark 0, source 0"
-pub fn export(head: &mut [u8], elements: &mut [u8], address: u32) -> Reply
-    requires { ⌜ headSize ≤ length (now head) ⌝ }
-    requires { ⌜ length (now elements) ≡ elementSize * length (roster (now head)) ⌝ }
+pub fn export(runs: [Range; 4], head: &mut [u8], elements: &mut [u8], address: u32) -> Reply
+    requires { ⌜ Ported runs (now head) (now elements) ⌝ }
     ensures { λ r. ⌜ ((rest : Rest) → sound (lent (now (head .entry)) (now (elements .entry)) rest) ≡ true → ended r (lent (now (head .exit)) (now (elements .exit)) rest) [] ≡ outcome (lent (now (head .entry)) (now (elements .entry)) rest) [] (exporting (lent (now (head .entry)) (now (elements .entry)) rest) address)) ⌝ }
 {
-    let ruling = judge_export(head, elements, address);
-    settle(head, elements, ruling)
+    let ruling = judge_export(runs, head, elements, address);
+    carry_out(head, elements, ruling)
 }
 
 // "clears .. sense, sets attention 29h/00h": of one host
@@ -213,7 +208,7 @@ fn restart(head: &mut [u8])
     ensures { λ _. ⌜ ((elements : List ℕ) (rest : Rest) → lent (now (head .exit)) elements rest ≡ changes (restartedFrom hosts 1) (lent (now (head .entry)) elements rest)) ⌝ }
 {
     let mut host: u8 = 1;
-    while host <= tables::HOSTS {
+    while host <= layout::HOSTS {
         restart_host(head, host);
         host += 1;
     }
@@ -225,8 +220,8 @@ pub fn reset(head: &mut [u8], elements: &mut [u8]) -> Reply
     ensures { λ r. ⌜ ((rest : Rest) → sound (lent (now (head .entry)) (now (elements .entry)) rest) ≡ true → ended r (lent (now (head .exit)) (now (elements .exit)) rest) [] ≡ outcome (lent (now (head .entry)) (now (elements .entry)) rest) [] (resetting (lent (now (head .entry)) (now (elements .entry)) rest))) ⌝ }
 {
     tables::head::hold_unit(head, 0);
-    holds::free(elements, Whose::Anyone);
+    frees::free(elements, Whose::Anyone);
     tables::head::set_mask(head, 0);
     restart(head);
-    order::told(0x00, 0)
+    order::told(order::GOOD, 0)
 }

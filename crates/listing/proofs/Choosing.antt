@@ -14,7 +14,8 @@ use Rattle.rules.specs.Choice.{when, anyOf}
 use Rattle.rules.specs.Tables.{Tables}
 use Rattle.rules.specs.Roster.{Slot, Range, slots, spread}
 use Rattle.rules.specs.Listing.{keep, ofType, atOrAbove, chosen, pages}
-use Rattle.rules.proofs.Ascending.{Each, Pairs, Differ, slots-length}
+use Rattle.rules.specs.Ranges.{Each, Pairs, Differ}
+use Rattle.rules.proofs.Places.{slots-length}
 use Rattle.pages.specs.Pages.{slot}
 use Rattle.listing.specs.Plan.{skips, picks, pickedOf, planned}
 

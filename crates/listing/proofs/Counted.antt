@@ -13,15 +13,16 @@ use Rattle.rules.specs.Tables.{Tables, elementAt}
 use Rattle.rules.specs.Roster.{Slot, Range, slots}
 use Rattle.rules.specs.Listing.{page, fitting, joined, firstAddress}
 use Rattle.rules.proofs.Ladder.{on}
-use Rattle.rules.proofs.Ascending.{Each, total, slots-length}
+use Rattle.rules.specs.Ranges.{Each, total}
+use Rattle.rules.proofs.Places.{slots-length}
 use Rattle.listing.specs.declared.Query.{Query}
-use Rattle.listing.specs.declared.Stand.{Stand}
+use Rattle.listing.specs.declared.Tally.{Tally}
 use Rattle.pages.specs.Pages.{Labelled}
 use Rattle.listing.specs.Plan.{skips, picks, pickedOf, planned}
 use Rattle.listing.specs.Counting.{Inside, leadOf, chosenAt, fittingAt, stepOf, stepBytes, counted, added, outset, Within}
 use Rattle.pages.proofs.Lent.{put-append, put-nothing}
 use Rattle.pages.proofs.Descriptor.{joined-append}
-use Rattle.pages.proofs.Descriptor.{used-few, shown-length}
+use Rattle.pages.proofs.Descriptor.{page-bytes-few, shown-length}
 use Rattle.listing.proofs.Choosing.{picked}
 use Rattle.listing.proofs.Fitting.{fit-page, nothing-fits, fit-is, page-length}
 
@@ -38,20 +39,20 @@ lead-few number n address first a f =
     on (λ (x : ℕ). x < 65536) (eqb number 0) (λ e. on (λ (x : ℕ). x < 65536) (eqb n 0) (λ d. omega arith) (λ d. a)) (λ e. f)
 
 -- what is chosen of a range and what fits of it are few
-pub counts-few : (q : Query) (s : Stand) (r : Range) → s .number + s .left < 65536 → (fittingAt q s r < 65536) × (chosenAt q s r < 65536)
+pub counts-few : (q : Query) (s : Tally) (r : Range) → s .number + s .left < 65536 → (fittingAt q s r < 65536) × (chosenAt q s r < 65536)
 counts-few q s r h =
     let a = picks-few (q .code) (q .start) (s .left) r in
     let d = fit-is (q .tagged) (s .room) (chosenAt q s r) .few in
     omega arith
 
 -- a range adds little
-pub within-more : (k : ℕ) (q : Query) (s : Stand) (r : Range) → q .start < 65536 → Inside r → Within k s → Within (k + 1) (stepOf q s r)
+pub within-more : (k : ℕ) (q : Query) (s : Tally) (r : Range) → q .start < 65536 → Inside r → Within k s → Within (k + 1) (stepOf q s r)
 unfolding stepOf
 within-more k q s r b i w =
     let a = picks-few (q .code) (q .start) (s .left) r in
     let f = counts-few q s r (w .sum) in
-    let u = used-few (q .tagged) (fittingAt q s r) (f .0) in
-    let v = used-few (q .tagged) (chosenAt q s r) (f .1) in
+    let u = page-bytes-few (q .tagged) (fittingAt q s r) (f .0) in
+    let v = page-bytes-few (q .tagged) (chosenAt q s r) (f .1) in
     record {
       place = omega (arith, w .place, i .ends);
       sum = omega (arith, w .sum);
@@ -60,15 +61,15 @@ within-more k q s r b i w =
       first = lead-few (s .number) (chosenAt q s r) (r .first + skips (q .start) r) (s .first) (omega (arith, i .begins)) (w .first);
     }
 
-pub within-later : (k m : ℕ) (s : Stand) → k ≤ m → Within k s → Within m s
+pub within-later : (k m : ℕ) (s : Tally) → k ≤ m → Within k s → Within m s
 within-later k m s h w =
     record { place = omega (arith, w .place); sum = w .sum; at = omega (arith, w .at); total = omega (arith, w .total); first = w .first }
 
-pub step-up : (q : Query) (s : Stand) (r : Range) → s .at ≤ stepOf q s r .at
+pub step-up : (q : Query) (s : Tally) (r : Range) → s .at ≤ stepOf q s r .at
 unfolding stepOf
 step-up q s r = omega arith
 
-pub step-place : (q : Query) (s : Stand) (r : Range) → stepOf q s r .place ≡ s .place + r .count
+pub step-place : (q : Query) (s : Tally) (r : Range) → stepOf q s r .place ≡ s .place + r .count
 unfolding stepOf
 step-place q s r = refl
 
@@ -76,14 +77,14 @@ step-place q s r = refl
 
 module _ (q : Query) (t : Tables) (ok : Labelled t) where
   -- the pages of ranges from a stand on
-  abbrev pub pagesFrom : Stand → List Range → List (List ℕ)
+  abbrev pub pagesFrom : Tally → List Range → List (List ℕ)
   pagesFrom s rs = planned (q .tagged) t (q .code) (q .start) (s .left) (s .place) rs
 
-  abbrev pub pickedFrom : Stand → List Range → List Slot
+  abbrev pub pickedFrom : Tally → List Range → List Slot
   pickedFrom s rs = picked (q .code) (q .start) (s .left) (s .place) rs
 
   -- what is chosen of a range stands in the table
-  chosen-stand : (s : Stand) (r : Range) (m : ℕ) → elementAt (s .place + r .count) ≤ length (t .elements) → m ≤ chosenAt q s r → 0 < m
+  chosen-stand : (s : Tally) (r : Range) (m : ℕ) → elementAt (s .place + r .count) ≤ length (t .elements) → m ≤ chosenAt q s r → 0 < m
       → elementAt (s .place + skips (q .start) r + m) ≤ length (t .elements)
   chosen-stand s r m h g p = let a = picks-few (q .code) (q .start) (s .left) r in omega arith
 
@@ -94,7 +95,7 @@ module _ (q : Query) (t : Tables) (ok : Labelled t) where
       nothing-fits (q .tagged) t (r .kind) _ _ (no-room (left - picks (q .code) (q .start) left r) (p + r .count) rs)
 
   -- the bytes that a range adds, and those behind it
-  fit-step : (s : Stand) (r : Range) (rs : List Range) → elementAt (s .place + r .count) ≤ length (t .elements)
+  fit-step : (s : Tally) (r : Range) (rs : List Range) → elementAt (s .place + r .count) ≤ length (t .elements)
       → added q t s (r ∷ rs) ≡ stepBytes q t s r ++ added q t (stepOf q s r) rs
   unfolding added planned stepBytes stepOf
   fit-step s r rs h =
@@ -103,7 +104,7 @@ module _ (q : Query) (t : Tables) (ok : Labelled t) where
       (planned (q .tagged) t (q .code) (q .start) (s .left - n) (s .place + r .count) rs) ok (λ p. chosen-stand s r n h (omega arith) p)
       (fit-is (q .tagged) (s .room) n) (no-room (s .left - n) (s .place + r .count) rs)
 
-  step-length : (s : Stand) (r : Range) → elementAt (s .place + r .count) ≤ length (t .elements)
+  step-length : (s : Tally) (r : Range) → elementAt (s .place + r .count) ≤ length (t .elements)
       → s .at + length (stepBytes q t s r) ≡ stepOf q s r .at
   unfolding stepBytes stepOf
   step-length s r h =
@@ -113,20 +114,20 @@ module _ (q : Query) (t : Tables) (ok : Labelled t) where
       (λ p. chosen-stand s r (fittingAt q s r) h f p))
 
   -- written one after the other, they are written as one
-  pub write-step : (l : List ℕ) (s : Stand) (r : Range) (rs : List Range) → elementAt (s .place + r .count) ≤ length (t .elements)
+  pub write-step : (l : List ℕ) (s : Tally) (r : Range) (rs : List Range) → elementAt (s .place + r .count) ≤ length (t .elements)
       → put (put l (s .at) (stepBytes q t s r)) (stepOf q s r .at) (added q t (stepOf q s r) rs) ≡ put l (s .at) (added q t s (r ∷ rs))
   write-step l s r rs h =
       put-append l (s .at) (stepOf q s r .at) (stepBytes q t s r) (added q t (stepOf q s r) rs) (step-length s r h)
       ∙ ap (put l (s .at)) (sym (fit-step s r rs h))
 
-  nothing-added : (s : Stand) → added q t s [] ≡ []
+  nothing-added : (s : Tally) → added q t s [] ≡ []
   unfolding added planned fitting
   nothing-added s = refl
 
-  pub write-none : (l : List ℕ) (s : Stand) → put l (s .at) (added q t s []) ≡ l
+  pub write-none : (l : List ℕ) (s : Tally) → put l (s .at) (added q t s []) ≡ l
   write-none l s = ap (put l (s .at)) (nothing-added s) ∙ put-nothing l (s .at)
 
-  total-step : (s : Stand) (r : Range) (rs : List Range) → elementAt (s .place + r .count) ≤ length (t .elements)
+  total-step : (s : Tally) (r : Range) (rs : List Range) → elementAt (s .place + r .count) ≤ length (t .elements)
       → s .total + length (joined (pagesFrom s (r ∷ rs))) ≡ stepOf q s r .total + length (joined (pagesFrom (stepOf q s r) rs))
   unfolding planned stepOf
   total-step s r rs h =
@@ -137,7 +138,7 @@ module _ (q : Query) (t : Tables) (ok : Labelled t) where
       let j : length (joined (x ++ y)) ≡ length (joined x) + length (joined y) = ap length (joined-append x y) ∙ length-append (joined x) (joined y) in
       omega arith
 
-  number-step : (s : Stand) (r : Range) (rs : List Range)
+  number-step : (s : Tally) (r : Range) (rs : List Range)
       → s .number + length (pickedFrom s (r ∷ rs)) ≡ stepOf q s r .number + length (pickedFrom (stepOf q s r) rs)
   unfolding picked stepOf
   number-step s r rs =
@@ -149,10 +150,10 @@ module _ (q : Query) (t : Tables) (ok : Labelled t) where
       omega arith
 
   -- the first address, where those chosen so far are followed by these
-  firstFrom : Stand → List Slot → ℕ
+  firstFrom : Tally → List Slot → ℕ
   firstFrom s ss = when (eqb (s .number) 0) (firstAddress ss) (s .first)
 
-  first-step : (s : Stand) (r : Range) (rs : List Range) → firstFrom s (pickedFrom s (r ∷ rs)) ≡ firstFrom (stepOf q s r) (pickedFrom (stepOf q s r) rs)
+  first-step : (s : Tally) (r : Range) (rs : List Range) → firstFrom s (pickedFrom s (r ∷ rs)) ≡ firstFrom (stepOf q s r) (pickedFrom (stepOf q s r) rs)
   unfolding firstFrom picked stepOf leadOf slots firstAddress when
   first-step s r rs = go (s .number) (chosenAt q s r) (picked (q .code) (q .start) (s .left - chosenAt q s r) (s .place + r .count) rs)
     where
@@ -169,23 +170,23 @@ module _ (q : Query) (t : Tables) (ok : Labelled t) where
   -- ---- all ranges
 
   -- room for the elements of the ranges, from a stand on
-  abbrev pub Stands : Stand → List Range → Type 0
+  abbrev pub Stands : Tally → List Range → Type 0
   Stands s rs = elementAt (s .place + total rs) ≤ length (t .elements)
 
-  pub stands-first : (s : Stand) (r : Range) (rs : List Range) → Stands s (r ∷ rs) → elementAt (s .place + r .count) ≤ length (t .elements)
+  pub stands-first : (s : Tally) (r : Range) (rs : List Range) → Stands s (r ∷ rs) → elementAt (s .place + r .count) ≤ length (t .elements)
   unfolding total
   stands-first s r rs h = omega arith
 
-  pub stands-later : (s : Stand) (r : Range) (rs : List Range) → Stands s (r ∷ rs) → Stands (stepOf q s r) rs
+  pub stands-later : (s : Tally) (r : Range) (rs : List Range) → Stands s (r ∷ rs) → Stands (stepOf q s r) rs
   unfolding total
   stands-later s r rs h = let e = step-place q s r in omega arith
 
-  pub counted-up : (s : Stand) (rs : List Range) → s .at ≤ counted q s rs .at
+  pub counted-up : (s : Tally) (rs : List Range) → s .at ≤ counted q s rs .at
   unfolding counted
   counted-up s [] = omega arith
   counted-up s (r ∷ rs) = let a = step-up q s r in let b = counted-up (stepOf q s r) rs in omega arith
 
-  pub counted-at : (s : Stand) (rs : List Range) → Stands s rs → s .at + length (added q t s rs) ≡ counted q s rs .at
+  pub counted-at : (s : Tally) (rs : List Range) → Stands s rs → s .at + length (added q t s rs) ≡ counted q s rs .at
   unfolding counted
   counted-at s [] h = ap (λ (x : List ℕ). s .at + length x) (nothing-added s) ∙ add-zero (s .at)
   counted-at s (r ∷ rs) h =
@@ -194,32 +195,32 @@ module _ (q : Query) (t : Tables) (ok : Labelled t) where
       let e = ap length (fit-step s r rs (stands-first s r rs h)) ∙ length-append (stepBytes q t s r) (added q t (stepOf q s r) rs) in
       omega arith
 
-  pub counted-number : (s : Stand) (rs : List Range) → s .number + length (pickedFrom s rs) ≡ counted q s rs .number
+  pub counted-number : (s : Tally) (rs : List Range) → s .number + length (pickedFrom s rs) ≡ counted q s rs .number
   unfolding counted picked
   counted-number s [] = add-zero (s .number)
   counted-number s (r ∷ rs) = number-step s r rs ∙ counted-number (stepOf q s r) rs
 
-  pub counted-total : (s : Stand) (rs : List Range) → Stands s rs → s .total + length (joined (pagesFrom s rs)) ≡ counted q s rs .total
+  pub counted-total : (s : Tally) (rs : List Range) → Stands s rs → s .total + length (joined (pagesFrom s rs)) ≡ counted q s rs .total
   unfolding counted planned joined
   counted-total s [] h = add-zero (s .total)
   counted-total s (r ∷ rs) h = total-step s r rs (stands-first s r rs h) ∙ counted-total (stepOf q s r) rs (stands-later s r rs h)
 
   -- while none is chosen, no first address is noted
-  abbrev Unled : Stand → Type 0
+  abbrev Unled : Tally → Type 0
   Unled s = s .number ≡ 0 → s .first ≡ 0
 
-  unled-step : (s : Stand) (r : Range) → Unled (stepOf q s r)
+  unled-step : (s : Tally) (r : Range) → Unled (stepOf q s r)
   unfolding stepOf leadOf when
   unled-step s r e =
       let a : s .number ≡ 0 = omega arith in
       let b : chosenAt q s r ≡ 0 = omega arith in
       rw (eq-eqb (s .number) 0 a, eq-eqb (chosenAt q s r) 0 b)
 
-  first-none : (s : Stand) → Unled s → firstFrom s [] ≡ s .first
+  first-none : (s : Tally) → Unled s → firstFrom s [] ≡ s .first
   unfolding firstFrom firstAddress
   first-none s u = on (λ (x : ℕ). x ≡ s .first) (eqb (s .number) 0) (λ e. sym (u (eqb-true (s .number) 0 e))) (λ e. refl)
 
-  counted-first-from : (s : Stand) (rs : List Range) → Unled s → firstFrom s (pickedFrom s rs) ≡ counted q s rs .first
+  counted-first-from : (s : Tally) (rs : List Range) → Unled s → firstFrom s (pickedFrom s rs) ≡ counted q s rs .first
   unfolding counted picked
   counted-first-from s [] u = first-none s u
   counted-first-from s (r ∷ rs) u = first-step s r rs ∙ counted-first-from (stepOf q s r) rs (unled-step s r)
@@ -228,7 +229,7 @@ module _ (q : Query) (t : Tables) (ok : Labelled t) where
   unfolding firstFrom when
   counted-first most room rs = counted-first-from (outset most room) rs (λ e. refl)
 
-  pub counted-within : (k : ℕ) (s : Stand) (rs : List Range) → q .start < 65536 → Each Inside rs → Within k s → Within (k + length rs) (counted q s rs)
+  pub counted-within : (k : ℕ) (s : Tally) (rs : List Range) → q .start < 65536 → Each Inside rs → Within k s → Within (k + length rs) (counted q s rs)
   unfolding counted
   counted-within k s [] b i w = rw add-zero w
   counted-within k s (r ∷ rs) b i w =

@@ -6,33 +6,24 @@ use mathlib.Core.Logic.{_≢_}
 use mathlib.Core.Bool.{Bool, true, false}
 use mathlib.Core.List.{List, [], _∷_}
 use lib.ListN.{length}
-use lib.Dec.{leb, ltb}
-use borrow.Author.Tests.{le-leb}
-use Rattle.rules.specs.Choice.{when, anyOf}
+use lib.Dec.{leb}
+use Rattle.rules.specs.Choice.{when}
 use Rattle.rules.specs.Bytes.{word, triple}
-use Rattle.rules.specs.Tables.{Tables, lent, sensed, Sense, inHead, inElements, change, changes, bare}
-use Rattle.rules.specs.Roster.{Slot, Range, ranges, sorted, roster, drive}
+use Rattle.rules.specs.Tables.{Tables, hosts, lent, sensed, Sense, inHead, inElements, change, changes, bare}
+use Rattle.rules.specs.Roster.{Slot, Range, ranges, sorted, roster}
 use Rattle.rules.specs.Sound.{sound}
-use Rattle.rules.specs.Order.{Outcome, outcome, fits, Number, Done, GOOD, check, stray}
-use Rattle.rules.specs.Listing.{listMasks, withTags, typeCode, keep, ofType, descriptor, page, pages, chosenBy, pagesOf, listing, readStatus}
-use Rattle.rules.proofs.Ladder.{either, when-true, when-false}
+use Rattle.rules.specs.Order.{Outcome, outcome, fits, Number, Done, GOOD}
+use Rattle.rules.specs.Listing.{withTags, keep, ofType, descriptor, page, pages, chosenBy, pagesOf, listing, readStatus}
+use Rattle.rules.proofs.Ladder.{either}
 use Rattle.rules.proofs.Soundness.{sound-true, RangeFits}
-use Rattle.rules.proofs.Ascending.{each-map, sorted-fit, ranges-sound, kinds-differ, kinds-stand, spread-length}
+use Rattle.rules.proofs.Places.{spread-length}
+use Rattle.rules.proofs.Ascending.{each-map, sorted-fit, ranges-sound, kinds-differ, kinds-stand}
 use Rattle.order.specs.declared.Reply.{Reply}
 use Rattle.order.specs.Ending.{ended}
 use Rattle.pages.specs.Pages.{stock}
-use Rattle.listing.specs.Counting.{Inside, Listable, Answers, listed}
-
--- ---- two tests
-
-pub by-first : (a b : Bool) → a ≡ true → true ≡ anyOf (a ∷ b ∷ [])
-unfolding anyOf when
-by-first a b e = rw e
-
-pub by-second : (a b r : Bool) → a ≡ false → r ≡ b → r ≡ anyOf (a ∷ b ∷ [])
-unfolding anyOf when
-by-second a true r e f = rw e f
-by-second a false r e f = rw e f
+use Rattle.tables.specs.declared.Range.{Range as Code}
+use Rattle.tables.specs.Ranges.{meant, Runs}
+use Rattle.listing.specs.Counting.{Inside, Listable, Readable, Answers, asked, listed}
 
 -- ---- sound tables can be listed
 
@@ -41,7 +32,7 @@ inside r f =
     either (r .count) 0 (λ z. let a = f .none z in record { begins = omega arith; ends = omega arith })
     λ n. let b = f .high n in record { begins = omega arith; ends = b }
 
-pub listable : (t : Tables) → sound t ≡ true → Listable (sorted (ranges (t .head))) (stock (t .elements) (t .rest .tags) (t .rest .blank))
+listable : (t : Tables) → sound t ≡ true → Listable (sorted (ranges (t .head))) (stock (t .elements) (t .rest .tags) (t .rest .blank))
 unfolding roster
 listable t e =
     let s = sound-true t e in
@@ -58,6 +49,13 @@ listable t e =
       };
     }
 
+-- and read, by their runs
+pub readable : (t : Tables) (runs : List Code) (host : ℕ) (block : List ℕ) → sound t ≡ true → Runs runs (t .head) → host ≤ hosts → length block ≡ 12
+    → Readable runs (t .head) (stock (t .elements) (t .rest .tags) (t .rest .blank)) host block
+readable t runs host block e is h n =
+    let s = sound-true t e .head-fits in
+    record { long = omega arith; runs-are = is; listable = rw is (listable t e); known = h; twelve = n }
+
 -- ---- the bytes are the rules'
 
 same-page : (tagged : Bool) (t : Tables) (kind : ℕ) (ss : List Slot)
@@ -72,11 +70,14 @@ unfolding pages
 same-pages tagged t [] ss = refl
 same-pages tagged t (r ∷ rs) ss = rw (same-page tagged t (r .kind) (keep (ofType (r .kind)) ss), same-pages tagged t rs ss)
 
-listing-is : (t : Tables) (block : List ℕ)
-    → listed (withTags block) (stock (t .elements) (t .rest .tags) (t .rest .blank)) (sorted (ranges (t .head))) (typeCode block) (word block 2) (word block 4) (triple block 7)
-    ≡ listing (withTags block) t (triple block 7) (chosenBy t block)
+-- what is listed of the runs, in the block's own terms
+abbrev pub asks : Tables → List Code → List ℕ → List ℕ
+asks t runs block = listed (asked block .tagged) t (meant runs) (asked block .code) (asked block .start) (word block 4) (triple block 7)
+
+listing-is : (t : Tables) (runs : List Code) (block : List ℕ) → Runs runs (t .head)
+    → asks (stock (t .elements) (t .rest .tags) (t .rest .blank)) runs block ≡ listing (withTags block) t (triple block 7) (chosenBy t block)
 unfolding listing listed chosenBy pagesOf roster
-listing-is t block = rw (same-pages (withTags block) t (sorted (ranges (t .head))) (chosenBy t block))
+listing-is t runs block e = rw (e, same-pages (withTags block) t (sorted (ranges (t .head))) (chosenBy t block))
 
 -- ---- the ways out
 
@@ -116,39 +117,16 @@ module _ (t : Tables) (h : ℕ) (bytes entry exit : List ℕ) (r : Reply) (a : A
       go true e = absurd (z (ap (λ (o : Outcome). o .number) e))
       go false e = ap (leaving t) e
 
--- the command: step 4, then the listing
-module _ (t : Tables) (host : ℕ) (block entry exit : List ℕ) (r : Reply) where
-  abbrev test : Bool
-  test = anyOf (stray listMasks block ∷ ltb drive (typeCode block) ∷ [])
-
-  bytes : List ℕ
-  bytes = listing (withTags block) t (triple block 7) (chosenBy t block)
-
+-- the command
+module _ (t : Tables) (runs : List Code) (host : ℕ) (block entry exit : List ℕ) (r : Reply) (is : Runs runs (t .head))
+    (a : Answers (asks (stock (t .elements) (t .rest .tags) (t .rest .blank)) runs block) entry exit r) where
   abbrev Ends : List ℕ → Type 0
   Ends head = ended r (lent head (t .elements) (t .rest)) exit ≡ outcome t entry (fits entry (readStatus t host block))
 
-  pub ends-checked : (head : List ℕ) → test ≡ true → exit ≡ entry
-      → ended r (lent head (t .elements) (t .rest)) entry ≡ outcome t entry (check host 5 0x24 0x00) → Ends head
-  unfolding readStatus fits check
-  ends-checked head m same e =
-      rw (
-        same,
-        when-true test (check host 5 0x24 0x00) (Done GOOD (listing (withTags block) t (triple block 7) (chosenBy t block)) (Sense host 0 0 0 ∷ [])) m,
-        when-true (leb 0 (length entry)) (check host 5 0x24 0x00) (Number 5) (le-leb 0 (length entry) (omega arith)),
-      ) e
+  pub ends-good : (head : List ℕ) → r .number ≡ 0 → head ≡ sensed (t .head) host 0 0 0 → Ends head
+  unfolding readStatus
+  ends-good head z e = rw e (good-ends t host _ entry exit r (rw (listing-is t runs block is) at a) z)
 
-  module _ (m : test ≡ false)
-      (a : Answers (listed (withTags block) (stock (t .elements) (t .rest .tags) (t .rest .blank)) (sorted (ranges (t .head))) (typeCode block) (word block 2) (word block 4) (triple block 7)) entry exit r) where
-    passed : readStatus t host block ≡ Done GOOD bytes (Sense host 0 0 0 ∷ [])
-    unfolding readStatus bytes
-    passed = when-false test _ _ m
-
-    answers : Answers bytes entry exit r
-    unfolding bytes
-    answers = rw (listing-is t block) at a
-
-    pub ends-good : (head : List ℕ) → r .number ≡ 0 → head ≡ sensed (t .head) host 0 0 0 → Ends head
-    ends-good head z e = rw (e, passed) (good-ends t host bytes entry exit r answers z)
-
-    pub ends-refused : r .number ≢ 0 → Ends (t .head)
-    ends-refused z = rw passed (refused-ends t host bytes entry exit r answers z)
+  pub ends-refused : r .number ≢ 0 → Ends (t .head)
+  unfolding readStatus
+  ends-refused z = refused-ends t host _ entry exit r (rw (listing-is t runs block is) at a) z

@@ -13,8 +13,8 @@ use Rattle.rules.specs.Tables.{Tables, elementAt}
 use Rattle.rules.specs.Roster.{Slot, slots}
 use Rattle.rules.specs.Listing.{descriptor, width, page, pageHeader, fitting, joined}
 use Rattle.rules.proofs.Ladder.{on}
-use Rattle.rules.proofs.Ascending.{slots-length}
-use Rattle.pages.specs.Pages.{Labelled, slot, used, shown, descriptors}
+use Rattle.rules.proofs.Places.{slots-length}
+use Rattle.pages.specs.Pages.{Labelled, slot, pageBytes, shown, descriptors}
 use Rattle.pages.proofs.Descriptor.{descriptor-length, run-length, page-header-length}
 use Rattle.listing.specs.Plan.{fitsIn, roomBehind}
 
@@ -59,7 +59,7 @@ tail false x rest z = sym z
 pub fit-page : (tagged : Bool) (t : Tables) (k a p n m room : ℕ) (rest : List (List ℕ)) → Labelled t → (0 < n → elementAt (p + n) ≤ length (t .elements))
     → Fit tagged room n m → fitting 0 rest ≡ []
     → fitting room (page tagged t k (slots k a p n) ++ rest) ≡ shown tagged t k a p n m ++ fitting (roomBehind tagged room n m) rest
-unfolding fitting page shown roomBehind used slots joined when
+unfolding fitting page shown roomBehind pageBytes slots joined when
 fit-page tagged t k a p zero zero room rest ok h f z = rw (sub-zero room)
 fit-page tagged t k a p zero (suc m) room rest ok h f z = absurd (omega (arith, f .few))
 fit-page tagged t k a p (suc n) zero room rest ok hh f z =
@@ -108,8 +108,8 @@ fit-is tagged room n =
 -- ---- the bytes of a page
 
 pub page-length : (tagged : Bool) (t : Tables) (k a p n : ℕ) → Labelled t → (0 < n → elementAt (p + n) ≤ length (t .elements))
-    → length (joined (page tagged t k (slots k a p n))) ≡ used tagged n
-unfolding page used joined slots when
+    → length (joined (page tagged t k (slots k a p n))) ≡ pageBytes tagged n
+unfolding page pageBytes joined slots when
 page-length tagged t k a p zero ok h = refl
 page-length tagged t k a p (suc n) ok hh =
     let h = hh (omega arith) in

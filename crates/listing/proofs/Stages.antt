@@ -9,10 +9,10 @@ use lib.Seq.{drop-cons}
 use Rattle.rules.specs.Bytes.{put}
 use Rattle.rules.specs.Tables.{Tables, elementAt}
 use Rattle.rules.specs.Roster.{Range as Span}
-use Rattle.rules.proofs.Ascending.{Each, total}
+use Rattle.rules.specs.Ranges.{Each, total}
 use Rattle.rules.proofs.Writes.{put-length}
 use Rattle.listing.specs.declared.Query.{Query}
-use Rattle.listing.specs.declared.Stand.{Stand}
+use Rattle.listing.specs.declared.Tally.{Tally}
 use Rattle.tables.specs.declared.Range.{Range}
 use Rattle.tables.specs.Ranges.{meaning, meant}
 use Rattle.pages.specs.Pages.{Labelled}
@@ -33,20 +33,20 @@ last rs k h = rw (drop-of-length-le rs {i = k} h)
 
 -- ---- counting
 
-pub record Counting (q : Query) (s₀ : Stand) (rs : List Range) (s : Stand) (k : ℕ) : Type 0 where
+pub record Counting (q : Query) (s₀ : Tally) (rs : List Range) (s : Tally) (k : ℕ) : Type 0 where
   pub same : counted q s (from rs k) ≡ counted q s₀ (meant rs)
   pub inside : Each Inside (from rs k)
   pub within : Within k s
   pub few : k ≤ length rs
 
-pub counting-begins : (q : Query) (s : Stand) (rs : List Range) → Each Inside (meant rs) → Within 0 s → Counting q s rs s 0
+pub counting-begins : (q : Query) (s : Tally) (rs : List Range) → Each Inside (meant rs) → Within 0 s → Counting q s rs s 0
 counting-begins q s rs i w = record { same = refl; inside = i; within = w; few = omega arith }
 
-module _ (q : Query) (s₀ : Stand) (rs : List Range) (s : Stand) (k : ℕ) (d : Range) (v : Counting q s₀ rs s k) (h : k < length rs) where
+module _ (q : Query) (s₀ : Tally) (rs : List Range) (s : Tally) (k : ℕ) (d : Range) (v : Counting q s₀ rs s k) (h : k < length rs) where
   pub counting-here : Inside (meaning (getD rs k d))
   counting-here = (rw (next rs k d h) at (v .inside)) .0
 
-  pub counting-on : q .start < 65536 → (s′ : Stand) → s′ ≡ stepOf q s (meaning (getD rs k d)) → Counting q s₀ rs s′ (k + 1)
+  pub counting-on : q .start < 65536 → (s′ : Tally) → s′ ≡ stepOf q s (meaning (getD rs k d)) → Counting q s₀ rs s′ (k + 1)
   unfolding counted
   counting-on b s′ e =
       rw e
@@ -57,13 +57,13 @@ module _ (q : Query) (s₀ : Stand) (rs : List Range) (s : Stand) (k : ℕ) (d :
         few = omega arith;
       })
 
-pub counting-ends : (q : Query) (s₀ : Stand) (rs : List Range) (s : Stand) (k : ℕ) → Counting q s₀ rs s k → length rs ≤ k → s ≡ counted q s₀ (meant rs)
+pub counting-ends : (q : Query) (s₀ : Tally) (rs : List Range) (s : Tally) (k : ℕ) → Counting q s₀ rs s k → length rs ≤ k → s ≡ counted q s₀ (meant rs)
 unfolding counted
 counting-ends q s₀ rs s k v h = rw (last rs k h) at (v .same)
 
 -- ---- writing
 
-pub record Writing (q : Query) (t : Tables) (s₀ : Stand) (rs : List Range) (l₀ l : List ℕ) (s : Stand) (k : ℕ) : Type 0 where
+pub record Writing (q : Query) (t : Tables) (s₀ : Tally) (rs : List Range) (l₀ l : List ℕ) (s : Tally) (k : ℕ) : Type 0 where
   pub written : put l (s .at) (added q t s (from rs k)) ≡ put l₀ (s₀ .at) (added q t s₀ (meant rs))
   pub long : length l ≡ length l₀
   pub room : counted q s (from rs k) .at ≤ length l₀
@@ -72,12 +72,12 @@ pub record Writing (q : Query) (t : Tables) (s₀ : Stand) (rs : List Range) (l�
   pub within : Within k s
   pub few : k ≤ length rs
 
-pub writing-begins : (q : Query) (t : Tables) (s : Stand) (rs : List Range) (l : List ℕ) → counted q s (meant rs) .at ≤ length l
+pub writing-begins : (q : Query) (t : Tables) (s : Tally) (rs : List Range) (l : List ℕ) → counted q s (meant rs) .at ≤ length l
     → elementAt (s .place + total (meant rs)) ≤ length (t .elements) → Each Inside (meant rs) → Within 0 s → Writing q t s rs l l s 0
 writing-begins q t s rs l r e i w =
     record { written = refl; long = refl; room = r; stands = e; inside = i; within = w; few = omega arith }
 
-module _ (q : Query) (t : Tables) (ok : Labelled t) (s₀ : Stand) (rs : List Range) (l₀ l : List ℕ) (s : Stand) (k : ℕ) (d : Range)
+module _ (q : Query) (t : Tables) (ok : Labelled t) (s₀ : Tally) (rs : List Range) (l₀ l : List ℕ) (s : Tally) (k : ℕ) (d : Range)
     (v : Writing q t s₀ rs l₀ l s k) (h : k < length rs) where
   pub writing-inside : Inside (meaning (getD rs k d))
   writing-inside = (rw (next rs k d h) at (v .inside)) .0
@@ -94,7 +94,7 @@ module _ (q : Query) (t : Tables) (ok : Labelled t) (s₀ : Stand) (rs : List Ra
   writing-stands = stands-first q t ok s (meaning (getD rs k d)) (from rs (k + 1)) (rw (next rs k d h) at (v .stands))
 
   pub writing-on : q .start < 65536 → (l′ : List ℕ) → l′ ≡ put l (s .at) (stepBytes q t s (meaning (getD rs k d)))
-      → (s′ : Stand) → s′ ≡ stepOf q s (meaning (getD rs k d)) → Writing q t s₀ rs l₀ l′ s′ (k + 1)
+      → (s′ : Tally) → s′ ≡ stepOf q s (meaning (getD rs k d)) → Writing q t s₀ rs l₀ l′ s′ (k + 1)
   unfolding counted
   writing-on b l′ f s′ e =
       rw (e, f)
@@ -108,6 +108,6 @@ module _ (q : Query) (t : Tables) (ok : Labelled t) (s₀ : Stand) (rs : List Ra
         few = omega arith;
       })
 
-pub writing-ends : (q : Query) (t : Tables) (ok : Labelled t) (s₀ : Stand) (rs : List Range) (l₀ l : List ℕ) (s : Stand) (k : ℕ)
+pub writing-ends : (q : Query) (t : Tables) (ok : Labelled t) (s₀ : Tally) (rs : List Range) (l₀ l : List ℕ) (s : Tally) (k : ℕ)
     → Writing q t s₀ rs l₀ l s k → length rs ≤ k → l ≡ put l₀ (s₀ .at) (added q t s₀ (meant rs))
 writing-ends q t ok s₀ rs l₀ l s k v h = sym (write-none q t ok l s) ∙ (rw (last rs k h) at (v .written))

@@ -1,23 +1,24 @@
 -- The bytes of the whole command are what the counts and the ranges make up, and a reply that carries them out. Assumes nothing.
-use Prim.Native.Nat.{ℕ, _+_, _≤_, _<_}
+use Prim.Native.Nat.{ℕ, _+_, _≤_, _<_, min}
 use native.Mathlib.Nat.{zero-add}
 use native.Mathlib.Omega.{arith}
 use mathlib.Core.Path.{_≡_, refl, sym, ap, _∙_}
 use mathlib.Core.List.{List, [], _++_}
-use lib.ListN.{length, take, length-append}
+use lib.ListN.{length, length-append}
 use lib.Dec.{leb}
 use borrow.Author.Tests.{lt-ltb, le-ltb, le-leb, lt-leb}
-use Rattle.rules.specs.Bytes.{put, three}
+use Rattle.rules.specs.Bytes.{put, three, cut}
 use Rattle.rules.specs.Tables.{Tables, elementAt, changes}
 use Rattle.rules.specs.Roster.{Range}
 use Rattle.rules.specs.Order.{outcome, fits, Number, Done, GOOD}
 use Rattle.rules.specs.Listing.{header, headerOf, returned, joined, firstAddress}
 use Rattle.rules.proofs.Ladder.{when-true, when-false}
-use Rattle.rules.proofs.Ascending.{total}
+use Rattle.rules.specs.Ranges.{total}
+use Rattle.rules.proofs.Writes.{cut-length, cut-least}
 use Rattle.order.specs.declared.Reply.{Reply}
 use Rattle.order.specs.Ending.{numbered, told}
 use Rattle.listing.specs.declared.Query.{Query}
-use Rattle.listing.specs.declared.Stand.{Stand}
+use Rattle.listing.specs.declared.Tally.{Tally}
 use Rattle.listing.specs.Plan.{planned}
 use Rattle.listing.specs.Counting.{counted, added, outset, Within, listed, Listable, Answers}
 use Rattle.listing.proofs.Choosing.{picked, chosen-is, pages-are}
@@ -46,11 +47,20 @@ answers-refused bytes entry h = rw (when-false (leb (length bytes) (length entry
 -- ---- the listing
 
 -- the header of a stand
-abbrev pub headerAt : Stand → List ℕ
+abbrev pub headerAt : Tally → List ℕ
 headerAt x = header (x .first) (x .number) (x .total)
 
+-- below 8, so many of its bytes
+pub header-cut : (allocation : ℕ) (x : Tally) → cut (min allocation 8) (headerAt x) ≡ cut allocation (headerAt x)
+unfolding header three
+header-cut allocation x = cut-least allocation (headerAt x)
+
+pub header-cut-length : (allocation : ℕ) (x : Tally) → length (cut allocation (headerAt x)) ≡ min allocation 8
+unfolding header three
+header-cut-length allocation x = cut-length allocation (headerAt x)
+
 -- x is the stand behind all ranges
-module _ (q : Query) (t : Tables) (rs : List Range) (most room : ℕ) (ok : Listable rs t) (x : Stand) (last : x ≡ counted q (outset most room) rs) where
+module _ (q : Query) (t : Tables) (rs : List Range) (most room : ℕ) (ok : Listable rs t) (x : Tally) (last : x ≡ counted q (outset most room) rs) where
   stands : elementAt (0 + total rs) ≤ length (t .elements)
   stands = omega (arith, ok .stands)
 
@@ -60,11 +70,11 @@ module _ (q : Query) (t : Tables) (rs : List Range) (most room : ℕ) (ok : List
   unfolding listed headerOf
   listed-is =
       let n : length (picked (q .code) (q .start) most 0 rs) ≡ x .number =
-      sym (zero-add _) ∙ counted-number q t (ok .labels) (outset most room) rs ∙ ap (λ (y : Stand). y .number) (sym last) in
+      sym (zero-add _) ∙ counted-number q t (ok .labels) (outset most room) rs ∙ ap (λ (y : Tally). y .number) (sym last) in
       let b : length (joined (planned (q .tagged) t (q .code) (q .start) most 0 rs)) ≡ x .total =
-      sym (zero-add _) ∙ counted-total q t (ok .labels) (outset most room) rs stands ∙ ap (λ (y : Stand). y .total) (sym last) in
+      sym (zero-add _) ∙ counted-total q t (ok .labels) (outset most room) rs stands ∙ ap (λ (y : Tally). y .total) (sym last) in
       let f : firstAddress (picked (q .code) (q .start) most 0 rs) ≡ x .first =
-      counted-first q t (ok .labels) most room rs ∙ ap (λ (y : Stand). y .first) (sym last) in
+      counted-first q t (ok .labels) most room rs ∙ ap (λ (y : Tally). y .first) (sym last) in
       rw (
         chosen-is (q .code) (q .start) most 0 rs,
         pages-are (q .tagged) t (q .code) (q .start) most 0 rs (ok .typed) (ok .differ),
@@ -73,7 +83,7 @@ module _ (q : Query) (t : Tables) (rs : List Range) (most room : ℕ) (ok : List
         b,
       )
 
-  pub listed-short : room < 8 → listed (q .tagged) t rs (q .code) (q .start) most room ≡ take room (headerAt x)
+  pub listed-short : room < 8 → listed (q .tagged) t rs (q .code) (q .start) most room ≡ cut room (headerAt x)
   unfolding returned
   listed-short h = listed-is ∙ when-true _ _ _ (lt-ltb room 8 h)
 
@@ -82,7 +92,7 @@ module _ (q : Query) (t : Tables) (rs : List Range) (most room : ℕ) (ok : List
   listed-long h = listed-is ∙ when-false _ _ _ (le-ltb room 8 h)
 
   pub added-length : 8 + length (added q t (outset most room) rs) ≡ x .at
-  added-length = counted-at q t (ok .labels) (outset most room) rs stands ∙ ap (λ (y : Stand). y .at) (sym last)
+  added-length = counted-at q t (ok .labels) (outset most room) rs stands ∙ ap (λ (y : Tally). y .at) (sym last)
 
   pub listed-length : 8 ≤ room → length (listed (q .tagged) t rs (q .code) (q .start) most room) ≡ x .at
   listed-length h =
@@ -102,7 +112,7 @@ module _ (q : Query) (t : Tables) (rs : List Range) (most room : ℕ) (ok : List
       rw last (rw e at (counted-within q t (ok .labels) 0 (outset most room) rs b (ok .inside) (begins-within most room m)))
 
   -- what ends a listing below 8, and from 8 on
-  pub short-answers : (entry exit : List ℕ) (r : Reply) → room < 8 → Answers (take room (headerAt x)) entry exit r
+  pub short-answers : (entry exit : List ℕ) (r : Reply) → room < 8 → Answers (cut room (headerAt x)) entry exit r
       → Answers (listed (q .tagged) t rs (q .code) (q .start) most room) entry exit r
   short-answers entry exit r h a = rw (listed-short h) a
 

@@ -8,7 +8,7 @@ use Rattle.rules.specs.Choice.{when, anyOf}
 use Rattle.rules.specs.Tables.{Tables}
 use Rattle.rules.specs.Roster.{Slot, Range, slots}
 use Rattle.rules.specs.Listing.{width, page}
-use Rattle.pages.specs.Pages.{used}
+use Rattle.pages.specs.Pages.{pageBytes}
 
 -- ---- one range
 
@@ -36,7 +36,7 @@ fitsIn tagged room n = when (ltb room (8 + width tagged)) 0 (min n ((room - 8) /
 
 -- the room behind a page: none where some of it had no room
 unfoldable pub roomBehind : Bool → ℕ → ℕ → ℕ → ℕ
-roomBehind tagged room n m = when (eqb m n) (room - used tagged m) 0
+roomBehind tagged room n m = when (eqb m n) (room - pageBytes tagged m) 0
 
 -- ---- all ranges, the first element of the first at place p
 

@@ -1,31 +1,17 @@
 // READ ELEMENT STATUS: the elements chosen, counted range by range, and what of their pages is returned.
 ghost use mathlib.Core.Path.{_≡_};
-ghost use mathlib.Core.List.{[], _∷_};
-ghost use mathlib.Core.Bool.{true};
-ghost use Prim.Native.Nat.{_+_, _-_, _≤_, _<_, min};
-ghost use lib.ListN.{length, take};
-ghost use lib.Dec.{ltb};
-ghost use Rattle.rules.specs.Choice.{anyOf};
-ghost use Rattle.rules.specs.Bytes.{put};
-ghost use Rattle.rules.specs.Tables.{Rest, headSize, elementAt, hosts, lent};
-ghost use Rattle.rules.specs.Roster.{ranges, sorted, drive};
-ghost use Rattle.rules.specs.Order.{outcome, fits, stray};
-ghost use Rattle.rules.specs.Listing.{listMasks, typeCode, header, readStatus};
-ghost use Rattle.rules.proofs.Ascending.{Each, total};
+ghost use Prim.Native.Nat.{_+_, _-_, _≤_, _<_};
+ghost use lib.ListN.{length};
+ghost use Rattle.rules.specs.Bytes.{put, cut};
+ghost use Rattle.rules.specs.Tables.{Rest, elementAt, lent};
+ghost use Rattle.rules.specs.Order.{outcome, fits};
+ghost use Rattle.rules.specs.Listing.{header, readStatus};
+ghost use Rattle.rules.specs.Ranges.{Each, total};
 ghost use Rattle.tables.specs.Ranges.{meaning, meant};
-ghost use Rattle.order.specs.Ending.{ended};
-ghost use Rattle.pages.specs.Pages.{stock, Labelled, used as usedOf};
+ghost use Rattle.order.specs.Ending.{ended, Lends};
+ghost use Rattle.pages.specs.Pages.{stock, Labelled, pageBytes};
 ghost use Rattle.listing.specs.Plan.{span, picks, fitsIn, roomBehind};
-ghost use Rattle.listing.specs.Counting.{Inside, Listable, Answers, asked, leadOf, stepOf, stepBytes, counted, added, outset, Within, listed};
-
-const HEADER: usize = 8;
-
-const LAST_TYPE: u8 = 4;
-
-const GOOD: u8 = 0x00;
-
-// House number 5: "answer buffer shorter than the bytes to be returned"
-const TOO_SHORT: u8 = 5;
+ghost use Rattle.listing.specs.Counting.{Inside, Listable, Readable, Answers, asked, leadOf, stepOf, stepBytes, counted, added, outset, Within, listed};
 
 // What a host asks for: tags, type code, start.
 pub struct Query {
@@ -36,7 +22,7 @@ pub struct Query {
 
 // Where a listing stands between two ranges: the place of the next element, how many may still be chosen, the room that is left and where
 // the next byte goes; and so far the number chosen, the bytes of all their pages and the first address chosen.
-pub struct Stand {
+pub struct Tally {
     pub place: usize,
     pub left: usize,
     pub room: usize,
@@ -58,27 +44,12 @@ fn less(a: usize, b: usize) -> usize
     a - b
 }
 
-fn least(a: usize, b: usize) -> usize
-    ensures { λ r. ⌜ r ≡ min a b ⌝ }
-{
-    if a < b {
-        return a;
-    }
-    b
-}
-
-fn wide(x: u16) -> usize
-    ensures { λ r. ⌜ r ≡ x ⌝ }
-{
-    x as usize
-}
-
 // How many of a range are chosen, of at most left: "elements of the type at or above start, ascending, at most that many".
 fn pick(q: Query, left: usize, kind: u8, first: usize, count: usize) -> usize
     ensures { λ n. ⌜ n ≡ picks (q .code) (q .start) left (span kind first count) ⌝ }
 {
     let code = q.code;
-    let n = least(left, less(count, less(q.start, first)));
+    let n = wire::least(left, less(count, less(q.start, first)));
     if code == 0 {
         return n;
     }
@@ -93,21 +64,21 @@ fn fit(tagged: bool, room: usize, n: usize) -> usize
     ensures { λ m. ⌜ m ≡ fitsIn tagged room n ⌝ }
 {
     let w = pages::width(tagged);
-    if room < HEADER + w {
+    if room < pages::HEADER + w {
         return 0;
     }
-    least(n, (room - HEADER) / w)
+    wire::least(n, (room - pages::HEADER) / w)
 }
 
 // The bytes of a page header and m descriptors; of none, none.
-fn used(tagged: bool, m: usize) -> usize
+fn page_bytes(tagged: bool, m: usize) -> usize
     requires { ⌜ m < 65536 ⌝ }
-    ensures { λ r. ⌜ r ≡ usedOf tagged m ⌝ }
+    ensures { λ r. ⌜ r ≡ pageBytes tagged m ⌝ }
 {
     if m == 0 {
         return 0;
     }
-    HEADER + m * pages::width(tagged)
+    pages::HEADER + m * pages::width(tagged)
 }
 
 // The room behind a page: none where some of it had no room.
@@ -116,7 +87,7 @@ fn rest(tagged: bool, room: usize, n: usize, m: usize) -> usize
     ensures { λ r. ⌜ r ≡ roomBehind tagged room n m ⌝ }
 {
     if m == n {
-        return less(room, used(tagged, m));
+        return less(room, page_bytes(tagged, m));
     }
     0
 }
@@ -135,29 +106,29 @@ fn lead(number: usize, n: usize, address: usize, first: usize) -> usize
 }
 
 // Counts a range.
-fn step(q: Query, s: Stand, r: tables::Range) -> Stand
+fn step(q: Query, s: Tally, r: tables::Range) -> Tally
     requires { ⌜ (q .start < 65536) × Inside (meaning r) ⌝ }
     requires { ⌜ Within 3 s ⌝ }
     ensures { λ x. ⌜ x ≡ stepOf q s (meaning r) ⌝ }
 {
-    let first = wide(r.first);
-    let count = wide(r.count);
+    let first = r.first as usize;
+    let count = r.count as usize;
     let n = pick(q, s.left, r.kind, first, count);
     let m = fit(q.tagged, s.room, n);
     let skip = less(q.start, first);
-    Stand {
+    Tally {
         place: s.place + count,
         left: less(s.left, n),
         room: rest(q.tagged, s.room, n, m),
-        at: s.at + used(q.tagged, m),
+        at: s.at + page_bytes(q.tagged, m),
         number: s.number + n,
-        total: s.total + used(q.tagged, n),
+        total: s.total + page_bytes(q.tagged, n),
         first: lead(s.number, n, first + skip, s.first),
     }
 }
 
 // Counts the four ranges.
-fn count(q: Query, s: Stand, rs: [tables::Range; 4]) -> Stand
+fn count(q: Query, s: Tally, rs: [tables::Range; 4]) -> Tally
     requires { ⌜ (q .start < 65536) × Each Inside (meant rs) ⌝ }
     requires { ⌜ Within 0 s ⌝ }
     ensures { λ x. ⌜ x ≡ counted q s (meant rs) ⌝ }
@@ -180,7 +151,7 @@ fn put_range<'a>(
     tags: &'a [u8],
     blank: &'a [u8],
     q: Query,
-    s: Stand,
+    s: Tally,
     r: tables::Range,
 )
     requires { ⌜ stepOf q s (meaning r) .at ≤ length (now answer) ⌝ }
@@ -189,8 +160,9 @@ fn put_range<'a>(
     requires { ⌜ Labelled (stock (now elements) (now tags) (now blank)) ⌝ }
     ensures { λ _. ⌜ now (answer .exit) ≡ put (now (answer .entry)) (s .at) (stepBytes q (stock (now (elements .entry)) (now (tags .entry)) (now (blank .entry))) s (meaning r)) ⌝ }
 {
-    let first = wide(r.first);
-    let n = pick(q, s.left, r.kind, first, wide(r.count));
+    let first = r.first as usize;
+    let count = r.count as usize;
+    let n = pick(q, s.left, r.kind, first, count);
     let m = fit(q.tagged, s.room, n);
     if m == 0 {
         return;
@@ -218,7 +190,7 @@ fn put_ranges<'a>(
     tags: &'a [u8],
     blank: &'a [u8],
     q: Query,
-    s: Stand,
+    s: Tally,
     rs: [tables::Range; 4],
 )
     requires { ⌜ counted q s (meant rs) .at ≤ length (now answer) ⌝ }
@@ -237,33 +209,33 @@ fn put_ranges<'a>(
     }
 }
 
-fn begin(most: usize, room: usize) -> Stand
+fn begin(most: usize, room: usize) -> Tally
     ensures { λ r. ⌜ r ≡ outset most room ⌝ }
 {
-    Stand {
+    Tally {
         place: 0,
         left: most,
-        room: less(room, HEADER),
-        at: HEADER,
+        room: less(room, pages::HEADER),
+        at: pages::HEADER,
         number: 0,
         total: 0,
         first: 0,
     }
 }
 
-// Below 8: "the first allocation bytes of the header".
-fn shortened(answer: &mut [u8], room: usize, x: Stand) -> order::Reply
-    requires { ⌜ room < 8 ⌝ }
+// "below 8, the first allocation bytes of the header"
+fn shortened(answer: &mut [u8], allocation: usize, x: Tally) -> order::Reply
     requires { ⌜ Within 4 x ⌝ }
-    ensures { λ r. ⌜ Answers (take room (header (x .first) (x .number) (x .total))) (now (answer .entry)) (now (answer .exit)) r ⌝ }
+    ensures { λ r. ⌜ Answers (cut allocation (header (x .first) (x .number) (x .total))) (now (answer .entry)) (now (answer .exit)) r ⌝ }
 {
-    if answer.len() < room {
-        return order::numbered(TOO_SHORT);
+    let n = order::cut(allocation, pages::HEADER);
+    if answer.len() < n {
+        return order::numbered(order::TOO_SHORT);
     }
-    let mut h = [0u8; HEADER];
+    let mut h = [0u8; pages::HEADER];
     pages::header(&mut h, x.first, x.number, x.total);
-    wire::copy(answer, &h[..room]);
-    order::told(GOOD, room as u32)
+    wire::copy(answer, &h[..n]);
+    order::told(order::GOOD, n as u32)
 }
 
 // "else the header and as many whole descriptors as fit": counted, and refused where the answer is too short, before a byte is written.
@@ -283,45 +255,19 @@ fn list<'a>(
 {
     let s = begin(most, room);
     let x = count(q, s, rs);
-    if room < HEADER {
+    if room < pages::HEADER {
         return shortened(answer, room, x);
     }
     let end = x.at;
     if answer.len() < end {
-        return order::numbered(TOO_SHORT);
+        return order::numbered(order::TOO_SHORT);
     }
     pages::header(answer, x.first, x.number, x.total);
     put_ranges(answer, elements, tags, blank, q, s, rs);
-    order::told(GOOD, end as u32)
+    order::told(order::GOOD, end as u32)
 }
 
-// ---- the command, from step 4 on
-
-// Bytes 6, 10 and 11 have no use.
-const MASKS: [u8; 11] = [
-    0x00,
-    0x00,
-    0x00,
-    0x00,
-    0x00,
-    0xFF,
-    0x00,
-    0x00,
-    0x00,
-    0xFF,
-    0xFF,
-];
-
-// "A bit without a use below, control byte .. not 0, or a type code above 4"
-fn malformed(block: &[u8]) -> bool
-    requires { ⌜ length (now block) ≡ 12 ⌝ }
-    ensures { λ r. ⌜ r ≡ anyOf (stray listMasks (now (block .entry)) ∷ ltb drive (typeCode (now (block .entry))) ∷ []) ⌝ }
-{
-    if order::stray(block, &MASKS) {
-        return true;
-    }
-    LAST_TYPE < block[1] % 16
-}
+// ---- the command, from step 5 on
 
 // "byte 1 bit 4 tags, bits 0-3 type .., 2-3 start"
 fn query_of(block: &[u8]) -> Query
@@ -333,12 +279,13 @@ fn query_of(block: &[u8]) -> Query
     Query {
         tagged: options / 16 % 2 == 1,
         code: options % 16,
-        start: wide(wire::word_at(block, 2)),
+        start: wire::word_at(block, 2) as usize,
     }
 }
 
-// READ ELEMENT STATUS for tables that can be listed, as sound ones can, a host from 1 to 8 and a block of 12 bytes.
+// READ ELEMENT STATUS for tables that can be listed, as sound ones can: their runs, a host up to 8 and a block of 12 bytes.
 pub fn read_element_status<'a>(
+    runs: [tables::Range; 4],
     head: &mut [u8],
     elements: &[u8],
     tags: &'a [u8],
@@ -347,21 +294,13 @@ pub fn read_element_status<'a>(
     block: &[u8],
     answer: &mut [u8],
 ) -> order::Reply
-    requires { ⌜ headSize ≤ length (now head) ⌝ }
-    requires { ⌜ Listable (sorted (ranges (now head))) (stock (now elements) (now tags) (now blank)) ⌝ }
-    requires { ⌜ (1 ≤ host) × (host ≤ hosts) ⌝ }
-    requires { ⌜ length (now block) ≡ 12 ⌝ }
-    ensures { λ r. ⌜ ((rest : Rest) → rest .tags ≡ now (tags .entry) → rest .blank ≡ now (blank .entry) → ended r (lent (now (head .exit)) (now (elements .entry)) rest) (now (answer .exit)) ≡ outcome (lent (now (head .entry)) (now (elements .entry)) rest) (now (answer .entry)) (fits (now (answer .entry)) (readStatus (lent (now (head .entry)) (now (elements .entry)) rest) host (now (block .entry))))) ⌝ }
+    requires { ⌜ Readable runs (now head) (stock (now elements) (now tags) (now blank)) host (now block) ⌝ }
+    ensures { λ r. ⌜ ((rest : Rest) → Lends rest (now (tags .entry)) (now (blank .entry)) → ended r (lent (now (head .exit)) (now (elements .entry)) rest) (now (answer .exit)) ≡ outcome (lent (now (head .entry)) (now (elements .entry)) rest) (now (answer .entry)) (fits (now (answer .entry)) (readStatus (lent (now (head .entry)) (now (elements .entry)) rest) host (now (block .entry))))) ⌝ }
 {
-    if malformed(block) {
-        return order::check(head, host, 5, 0x24, 0x00);
-    }
     let q = query_of(block);
-    let most = wide(wire::word_at(block, 4));
+    let most = wire::word_at(block, 4) as usize;
     let room = wire::triple_at(block, 7) as usize;
-    let by_type = tables::ranges(head);
-    let by_address = tables::sorted(by_type);
-    let r = list(answer, elements, tags, blank, q, most, room, by_address);
+    let r = list(answer, elements, tags, blank, q, most, room, runs);
     let number = r.number;
     if number != 0 {
         return r;

@@ -5,44 +5,29 @@ use mathlib.Core.Path.{_≡_, refl, sym, ap, _∙_}
 use mathlib.Core.Bool.{Bool, true, false}
 use mathlib.Core.List.{List, [], _∷_}
 use lib.ListN.{length}
-use lib.Dec.{eqb, leb, ltb}
-use borrow.Author.Tests.{eq-eqb, ltb-false, ltb-true, le-leb, lt-leb, ne-eqb}
+use lib.Dec.{eqb, ltb}
+use borrow.Author.Tests.{eq-eqb, ltb-false}
 use Rattle.rules.specs.Choice.{when, anyOf, differ}
-use Rattle.rules.specs.Roster.{Slot, roster, placeOf, kindOf}
-use Rattle.rules.specs.Order.{Verdict, check}
-use Rattle.rules.specs.Holds.{descriptorSize, descriptors, reservedBytes, number, address, first, many, unknown, tooMany, meet, namedBefore, wrongAddress, faultsFrom}
-use Rattle.rules.proofs.Ladder.{yes, no, eq-not, le-is, le-not, lt-is, lt-not, differ-is, differ-not, when-true, either}
-use Rattle.rules.proofs.Places.{kind-at}
+use Rattle.rules.specs.Roster.{Slot, placeOf, kindOf}
+use Rattle.rules.specs.Order.{Verdict, ListField, WrongAddress, refused}
+use Rattle.rules.specs.Tables.{descriptorSize}
+use Rattle.rules.specs.Holds.{descriptors, reservedBytes, number, address, first, many, unknown, tooMany, meet, namedBefore, wrongAddress, faultsFrom}
+use Rattle.rules.proofs.Ladder.{yes, no, eq-is, eq-not, lt-is, lt-not, differ-is, differ-not, differ-false, when-true, either}
 use Rattle.tables.specs.declared.Found.{Found}
 use Rattle.tables.specs.declared.Found.the-variants.{At, Nothing}
-use Rattle.tables.specs.LookUp.{found}
-use Rattle.tables.proofs.LookUp.{at-place, at-below, kind-place, kind-past}
+use Rattle.tables.specs.declared.Types.the-variants.{Any}
+use Rattle.tables.specs.LookUp.{admits, found}
+use Rattle.tables.proofs.LookUp.{at-place, at-some, nothing-admits}
+use Rattle.order.specs.declared.Cause.{Cause}
+use Rattle.order.specs.declared.Cause.the-variants as declared
+use Rattle.order.specs.Ending.{reason}
 use Rattle.reader.specs.declared.Step.{Step}
 use Rattle.reader.specs.Read.{stepAt}
 use Rattle.reader.proofs.Places.{the-kth, next-place}
 use Rattle.lists.specs.declared.Span.{Span}
 use Rattle.lists.specs.declared.Fault.{Fault}
-use Rattle.lists.specs.declared.Fault.the-variants.{Code, None}
-use Rattle.lists.specs.Named.{spanOf, spanAt, meets, meetsBefore, wrong, faultBy, faultOf, faultAt, orElse, faultFrom, faultIn, told, Inside}
-
--- ---- the place of an address that is no element's
-
-pub place-most : (ss : List Slot) (a : ℕ) → placeOf ss a ≤ length ss
-unfolding placeOf when
-place-most [] a = omega arith
-place-most (s ∷ ss) a = go (eqb (s .address) a) (place-most ss a)
-  where
-    go : (b : Bool) → placeOf ss a ≤ length ss → when b 0 (suc (placeOf ss a)) ≤ suc (length ss)
-    go true h = omega arith
-    go false h = omega arith
-
-pub none-place : (ss : List Slot) (a : ℕ) (f : Found) → f ≡ found ss a → f ≡ Nothing → length ss ≡ placeOf ss a
-unfolding found when
-none-place ss a f is e = go (ltb (placeOf ss a) (length ss)) refl (sym e ∙ is)
-  where
-    go : (b : Bool) → ltb (placeOf ss a) (length ss) ≡ b → Nothing ≡ found ss a → length ss ≡ placeOf ss a
-    go true t d = let z : Nothing ≡ At (placeOf ss a) = rw t at d in let y : _≡_ {A = ℕ} 0 1 = cc in absurd (let w : ⊥ = omega arith in w)
-    go false t d = omega (arith, ltb-false (placeOf ss a) (length ss) t, place-most ss a)
+use Rattle.lists.specs.declared.Fault.the-variants.{Because, None}
+use Rattle.lists.specs.Named.{spanOf, spanAt, meets, meetsBefore, wrong, faultBy, faultOf, faultAt, orElse, faultFrom, faultIn, refusing, Nameable}
 
 -- ---- the place behind the last element named
 
@@ -60,27 +45,27 @@ unfolding spanOf
 span-is ss d total p e all ends here = rw (ends, all, here)
 
 module _ (ss : List Slot) (list : List ℕ) (at : ℕ) (d : Step) where
-  pub fault-reserved : (d .reserved ≡ 0 → ⊥) → Code 0x26 0x00 ≡ faultOf ss list at d
+  pub fault-reserved : (d .reserved ≡ 0 → ⊥) → Because declared.ListField ≡ faultOf ss list at d
   unfolding faultOf
   fault-reserved t = differ-is _ _ _ _ _ t refl
 
-  module _ (t : d .reserved ≡ 0) (f : Found) (look : f ≡ found ss (d .address)) where
+  module _ (t : d .reserved ≡ 0) (f : Found) (look : f ≡ found Any ss (d .address)) where
     clean : (x : Fault)
-        → x ≡ when (leb (length ss) (spanOf ss d .first)) wrong (when (ltb (length ss) (spanOf ss d .end)) wrong (when (meetsBefore ss list at (spanOf ss d)) wrong None))
+        → x ≡ when (eqb (kindOf ss (d .address)) 0) wrong (when (ltb (length ss) (spanOf ss d .end)) wrong (when (meetsBefore ss list at (spanOf ss d)) wrong None))
         → x ≡ faultOf ss list at d
     unfolding faultOf
     clean x w = differ-not _ _ _ _ _ t w
 
     pub fault-unknown : f ≡ Nothing → wrong ≡ faultOf ss list at d
-    unfolding spanOf
-    fault-unknown e = clean _ (le-is (length ss) (placeOf ss (d .address)) _ _ _ (omega (arith, none-place ss (d .address) f look e)) refl)
+    unfolding admits
+    fault-unknown e = clean _ (eq-is _ _ _ _ _ (differ-false _ _ (nothing-admits Any ss (d .address) f look e)) refl)
 
     module _ (p total e : ℕ) (there : f ≡ At p) (all : total ≡ length ss) (ends : e ≡ p + when (eqb (d .number) 0) (total - p) (d .number)) where
       spanned : record { first = p; end = e } ≡ spanOf ss d
-      spanned = span-is ss d total p e all ends (at-place ss (d .address) f look p there)
+      spanned = span-is ss d total p e all ends (at-place Any ss (d .address) f look p there)
 
       known : (x : Fault) → x ≡ when (ltb (length ss) e) wrong (when (meetsBefore ss list at (record { first = p; end = e })) wrong None) → x ≡ faultOf ss list at d
-      known x w = clean x (rw (sym spanned) (le-not (length ss) p _ _ _ (at-below ss (d .address) f look p there) w))
+      known x w = clean x (rw (sym spanned) (eq-not _ _ _ _ _ (at-some Any ss (d .address) f look p there) w))
 
       pub fault-many : total < e → wrong ≡ faultOf ss list at d
       fault-many h = known _ (lt-is (length ss) e _ _ _ (omega arith) refl)
@@ -117,9 +102,9 @@ module _ (ss : List Slot) (list : List ℕ) where
             let next : d .after / descriptorSize ≡ suc k = omega (arith, so-far .0, next-place list at d read) in
             so-far .1 ∙ rw (left, next, is, read, here)
 
-        pub judged-fault : (a q : ℕ) → x ≡ Code a q → Code a q ≡ faultIn ss list
+        pub judged-fault : (cause : Cause) → x ≡ Because cause → Because cause ≡ faultIn ss list
         unfolding orElse
-        judged-fault a q e = sym (turn ∙ rw e)
+        judged-fault cause e = sym (turn ∙ rw e)
 
         pub judged-more : x ≡ None → Judged stop (d .after)
         unfolding orElse
@@ -142,8 +127,8 @@ module _ (ss : List Slot) (list : List ℕ) where
   span-at at d s whole read is = let here : descriptorSize * (at / descriptorSize) ≡ at = omega arith in is ∙ rw (here, read)
 
   fault-rules : (k : ℕ)
-      → faultAt ss list k ≡ faultBy (differ (reservedBytes list k) 0) (leb (length ss) (first ss list k)) (tooMany ss list k) (namedBefore ss list k)
-  unfolding faultAt faultOf spanAt spanOf stepAt reservedBytes number address first many tooMany namedBefore meetsBefore meet meets
+      → faultAt ss list k ≡ faultBy (differ (reservedBytes list k) 0) (unknown ss list k) (tooMany ss list k) (namedBefore ss list k)
+  unfolding faultAt faultOf spanAt spanOf stepAt reservedBytes number address first many unknown tooMany namedBefore meetsBefore meet meets
   fault-rules k = let e : descriptorSize * k / descriptorSize ≡ k = omega arith in rw e
 
 -- ---- where there is no fault, the elements named are in the table
@@ -153,7 +138,7 @@ module _ (ss : List Slot) (list : List ℕ) where
   unfolding tooMany when
   inside-at k e =
       rw (span-names ss list k)
-      (go (differ (reservedBytes list k) 0) (leb (length ss) (first ss list k)) (ltb (length ss) (first ss list k + many ss list k)) (namedBefore ss list k) refl
+      (go (differ (reservedBytes list k) 0) (unknown ss list k) (ltb (length ss) (first ss list k + many ss list k)) (namedBefore ss list k) refl
       (e ∙ fault-rules ss list k))
     where
       go : (a b c d : Bool) → ltb (length ss) (first ss list k + many ss list k) ≡ c
@@ -170,53 +155,32 @@ module _ (ss : List Slot) (list : List ℕ) where
     where
       go : (None ≡ faultFrom ss list n (suc k) → (i : ℕ) → suc k ≤ i → i < suc k + n → spanAt ss list i .end ≤ length ss)
           → (x : Fault) → faultAt ss list k ≡ x → None ≡ orElse x (faultFrom ss list n (suc k)) → spanAt ss list j .end ≤ length ss
-      go ih (Code a q) t w = let y : _≡_ {A = ℕ} 0 1 = cc in omega arith
+      go ih (Because cause) t w = let y : _≡_ {A = ℕ} 0 1 = cc in omega arith
       go ih None t w = either j k (λ d. rw d (inside-at k (sym t))) (λ d. ih w j (omega arith) (omega arith))
 
-  pub inside : None ≡ faultIn ss list → Inside ss list
+  pub nameable : None ≡ faultIn ss list → Nameable ss list
   unfolding faultIn
-  inside e j h = inside-from (descriptors list) 0 e j (omega arith) (omega arith)
+  nameable e j h = inside-from (descriptors list) 0 e j (omega arith) (omega arith)
 
 -- ---- what the first fault means is what the rules say of the list
 
-unknown-is : (head list : List ℕ) (k : ℕ) → unknown (roster head) list k ≡ leb (length (roster head)) (first (roster head) list k)
-unfolding unknown first
-unknown-is head list k = go (ltb (placeOf ss a) (length ss)) refl
-  where
-    ss : List Slot
-    ss = roster head
-
-    a : ℕ
-    a = address list k
-
-    go : (b : Bool) → ltb (placeOf ss a) (length ss) ≡ b → eqb (kindOf ss a) 0 ≡ leb (length ss) (placeOf ss a)
-    go true t =
-        let h : placeOf ss a < length ss = ltb-true _ _ t in
-        ne-eqb (kindOf ss a) 0 (λ z. omega (arith, kind-at head (placeOf ss a) h .0, kind-place ss a)) ∙ sym (lt-leb _ _ h)
-    go false t =
-        let h : length ss ≤ placeOf ss a = ltb-false _ _ t in
-        eq-eqb _ _ (sym (kind-place ss a) ∙ kind-past ss (placeOf ss a) h) ∙ sym (le-leb _ _ h)
-
-module _ (head list : List ℕ) (h : ℕ) (rest : Verdict) where
-  abbrev ss : List Slot
-  ss = roster head
-
-  told-from : (n k : ℕ) → told h rest (faultFrom ss list n k) ≡ faultsFrom ss h list n k rest
-  unfolding faultFrom faultsFrom told wrongAddress when anyOf orElse
-  told-from zero k = refl
-  told-from (suc n) k =
-      rw (fault-rules ss list k, unknown-is head list k)
-      (go (differ (reservedBytes list k) 0) (leb (length ss) (first ss list k)) (tooMany ss list k) (namedBefore ss list k) (told-from n (suc k)))
+module _ (ss : List Slot) (list : List ℕ) (h : ℕ) (rest : Verdict) where
+  refusing-from : (n k : ℕ) → refusing h rest (faultFrom ss list n k) ≡ faultsFrom ss h list n k rest
+  unfolding faultFrom faultsFrom refusing wrongAddress when anyOf orElse reason
+  refusing-from zero k = refl
+  refusing-from (suc n) k =
+      rw (fault-rules ss list k)
+      (go (differ (reservedBytes list k) 0) (unknown ss list k) (tooMany ss list k) (namedBefore ss list k) (refusing-from n (suc k)))
     where
-      go : (a b c d : Bool) → told h rest (faultFrom ss list n (suc k)) ≡ faultsFrom ss h list n (suc k) rest
-          → told h rest (orElse (faultBy a b c d) (faultFrom ss list n (suc k)))
-          ≡ when a (check h 5 0x26 0x00) (when (anyOf (b ∷ c ∷ d ∷ [])) (check h 5 0x21 0x01) (faultsFrom ss h list n (suc k) rest))
+      go : (a b c d : Bool) → refusing h rest (faultFrom ss list n (suc k)) ≡ faultsFrom ss h list n (suc k) rest
+          → refusing h rest (orElse (faultBy a b c d) (faultFrom ss list n (suc k)))
+          ≡ when a (refused h ListField) (when (anyOf (b ∷ c ∷ d ∷ [])) (refused h WrongAddress) (faultsFrom ss h list n (suc k) rest))
       go true b c d ih = refl
       go false true c d ih = refl
       go false false true d ih = refl
       go false false false true ih = refl
       go false false false false ih = ih
 
-  pub told-is : told h rest (faultIn ss list) ≡ faultsFrom ss h list (descriptors list) 0 rest
+  pub refusing-is : refusing h rest (faultIn ss list) ≡ faultsFrom ss h list (descriptors list) 0 rest
   unfolding faultIn
-  told-is = told-from (descriptors list) 0
+  refusing-is = refusing-from (descriptors list) 0

@@ -1,4 +1,3 @@
 pub mod Meaning
-pub mod Spots
 pub mod Answers
 pub mod Carried

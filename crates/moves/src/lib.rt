@@ -1,72 +1,53 @@
-// MOVE MEDIUM and EXCHANGE MEDIUM from step 4 on: judged by reading only, then carried out.
+// MOVE MEDIUM and EXCHANGE MEDIUM from step 5 on: judged by reading only, then carried out.
+use order::Cause;
 use order::Reply;
 use tables::Found;
 use tables::Range;
+use tables::Types;
 ghost use mathlib.Core.Path.{_≡_};
 ghost use mathlib.Core.List.{List};
-ghost use Prim.Native.Nat.{ℕ, _+_, _<_, _≤_};
+ghost use Prim.Native.Nat.{ℕ, _<_, _≤_};
 ghost use lib.ListN.{length};
-ghost use Rattle.rules.specs.Tables.{headSize, hosts, elementSize, elementAt, places, holder, lent, Rest};
+ghost use Rattle.rules.specs.Tables.{headSize, hosts, places, holder, lent, Rest};
 ghost use Rattle.rules.specs.Order.{other, outcome};
 ghost use Rattle.rules.specs.Moves.{move as moveVerdict, exchange as exchangeVerdict};
 ghost use Rattle.order.specs.Ending.{ended};
-ghost use Rattle.tables.specs.Ranges.{rosterOf};
-ghost use Rattle.moves.specs.Judged.{transportAt, spotAt, chosen, meaning, Within, moveAt, exchangeHeld, exchangeAt, moveBy, exchangeSpots, exchangeBy, carried, swapped, Ready};
+ghost use Rattle.tables.specs.Ranges.{laid};
+ghost use Rattle.tables.specs.LookUp.{found};
+ghost use Rattle.tables.specs.declared.Types.the-variants.{Transport};
+ghost use Rattle.moves.specs.Judged.{armAt, meaning, Within, moveAt, exchangeHeld, hinders, exchangeAt, moveBy, exchangeSpots, exchangeBy, carried, swapped, Ready};
 
-// What a command comes to: the places to carry from and to, key 5 with ASC and ASCQ, or a conflict.
+// What a command comes to: the places to carry from and to with the volumes that stand there, a refusal with its cause, or a conflict.
 pub enum Ruling {
     Move {
         from: usize,
         to: usize,
+        volume: u16,
     },
     Exchange {
         from: usize,
         first: usize,
         second: usize,
+        brought: u16,
+        displaced: u16,
     },
-    Check(u8, u8),
+    Refused(Cause),
     Conflict,
 }
 
-// "any other must be a transport"
-fn transport_at(rs: [Range; 4], address: u32) -> Found
-    ensures { λ r. ⌜ r ≡ transportAt (rosterOf rs) address ⌝ }
-{
-    let Found::At(p) = tables::find(rs, address) else {
-        return Found::Nothing;
-    };
-    if tables::kind_at(rs, p) == tables::TRANSPORT {
-        return Found::At(p);
-    }
-    Found::Nothing
-}
-
-// "Source and destination must be elements and no transport."
-fn spot_at(rs: [Range; 4], address: u32) -> Found
-    ensures { λ r. ⌜ r ≡ spotAt (rosterOf rs) address ⌝ }
-{
-    let Found::At(p) = tables::find(rs, address) else {
-        return Found::Nothing;
-    };
-    if tables::kind_at(rs, p) <= tables::TRANSPORT {
-        return Found::Nothing;
-    }
-    Found::At(p)
-}
-
-// "Transport 0 means the lowest-addressed one": `lowest` is its address.
-fn used(address: u16, lowest: u16) -> u32
-    ensures { λ r. ⌜ r ≡ chosen address lowest ⌝ }
+// "Transport 0 means the lowest-addressed one; any other must be a transport": where it stands.
+fn arm_of(runs: [Range; 4], address: u16) -> Found
+    ensures { λ r. ⌜ r ≡ found Transport (laid runs) (armAt (laid runs) address) ⌝ }
 {
     if address == 0 {
-        return lowest as u32;
+        return tables::find(runs, tables::first_transport(runs) as u32, Types::Transport);
     }
-    address as u32
+    tables::find(runs, address as u32, Types::Transport)
 }
 
-// "held by another host"
-fn held_by_other(elements: &[u8], host: u8, place: usize) -> bool
-    requires { ⌜ elementAt place + elementSize ≤ length (now elements) ⌝ }
+// The element at a place is held by another host.
+fn place_held(elements: &[u8], host: u8, place: usize) -> bool
+    requires { ⌜ place < places (now elements) ⌝ }
     ensures { λ r. ⌜ r ≡ other host (holder (now (elements .entry)) place) ⌝ }
 {
     order::other(host, tables::element::holder(elements, place))
@@ -80,22 +61,42 @@ fn move_at(elements: &[u8], host: u8, arm: usize, from: usize, to: usize) -> Rul
     ensures { λ r. ⌜ r ≡ moveAt (now (elements .entry)) host arm from to ⌝ }
     ensures { λ r. ⌜ Within (places (now (elements .entry))) r ⌝ }
 {
-    if held_by_other(elements, host, arm) {
+    if place_held(elements, host, arm) {
         return Ruling::Conflict;
     }
-    if held_by_other(elements, host, from) {
+    if place_held(elements, host, from) {
         return Ruling::Conflict;
     }
-    if held_by_other(elements, host, to) {
+    if place_held(elements, host, to) {
         return Ruling::Conflict;
     }
-    if tables::element::volume(elements, from) == 0 {
-        return Ruling::Check(0x3B, 0x0E);
+    let volume = tables::element::volume(elements, from);
+    if volume == 0 {
+        return Ruling::Refused(Cause::SourceEmpty);
     }
     if tables::element::volume(elements, to) != 0 {
-        return Ruling::Check(0x3B, 0x0D);
+        return Ruling::Refused(Cause::DestinationFull);
     }
-    Ruling::Move { from, to }
+    Ruling::Move { from, to, volume }
+}
+
+// MOVE, steps 5 to 8: "bytes 2-3 transport, 4-5 source, 6-7 destination"
+fn judge_move(runs: [Range; 4], elements: &[u8], host: u8, block: &[u8]) -> Ruling
+    requires { ⌜ length (laid runs) ≡ places (now elements) ⌝ }
+    requires { ⌜ length (now block) ≡ 12 ⌝ }
+    ensures { λ r. ⌜ r ≡ moveBy (laid runs) (now (elements .entry)) host (now (block .entry)) ⌝ }
+    ensures { λ r. ⌜ Within (places (now (elements .entry))) r ⌝ }
+{
+    let Found::At(arm) = arm_of(runs, wire::word_at(block, 2)) else {
+        return Ruling::Refused(Cause::WrongAddress);
+    };
+    let Found::At(from) = tables::find(runs, wire::word_at(block, 4) as u32, Types::Place) else {
+        return Ruling::Refused(Cause::WrongAddress);
+    };
+    let Found::At(to) = tables::find(runs, wire::word_at(block, 6) as u32, Types::Place) else {
+        return Ruling::Refused(Cause::WrongAddress);
+    };
+    move_at(elements, host, arm, from, to)
 }
 
 // EXCHANGE, step 6: whether an element touched is held by another host.
@@ -113,16 +114,27 @@ fn exchange_held(
     requires { ⌜ second < places (now elements) ⌝ }
     ensures { λ r. ⌜ r ≡ exchangeHeld (now (elements .entry)) host arm from first second ⌝ }
 {
-    if held_by_other(elements, host, arm) {
+    if place_held(elements, host, arm) {
         return true;
     }
-    if held_by_other(elements, host, from) {
+    if place_held(elements, host, from) {
         return true;
     }
-    if held_by_other(elements, host, first) {
+    if place_held(elements, host, first) {
         return true;
     }
-    held_by_other(elements, host, second)
+    place_held(elements, host, second)
+}
+
+// EXCHANGE, step 8: the second destination is full, and not the source.
+fn hinders(elements: &[u8], second: usize, same: bool) -> bool
+    requires { ⌜ second < places (now elements) ⌝ }
+    ensures { λ r. ⌜ r ≡ hinders (now (elements .entry)) second same ⌝ }
+{
+    if same {
+        return false;
+    }
+    tables::element::volume(elements, second) != 0
 }
 
 // EXCHANGE, steps 6 to 8. `same`: the second destination is the source.
@@ -145,152 +157,124 @@ fn exchange_at(
     if exchange_held(elements, host, arm, from, first, second) {
         return Ruling::Conflict;
     }
-    if tables::element::volume(elements, from) == 0 {
-        return Ruling::Check(0x3B, 0x0E);
+    let brought = tables::element::volume(elements, from);
+    if brought == 0 {
+        return Ruling::Refused(Cause::SourceEmpty);
     }
-    if tables::element::volume(elements, first) == 0 {
-        return Ruling::Check(0x3B, 0x0E);
+    let displaced = tables::element::volume(elements, first);
+    if displaced == 0 {
+        return Ruling::Refused(Cause::SourceEmpty);
     }
-    if same {
-        return Ruling::Exchange {
-            from,
-            first,
-            second,
-        };
-    }
-    if tables::element::volume(elements, second) != 0 {
-        return Ruling::Check(0x3B, 0x0D);
+    if hinders(elements, second, same) {
+        return Ruling::Refused(Cause::DestinationFull);
     }
     Ruling::Exchange {
         from,
         first,
         second,
+        brought,
+        displaced,
     }
 }
 
-// MOVE, steps 4 to 8.
-fn judge_move(rs: [Range; 4], lowest: u16, elements: &[u8], host: u8, block: &[u8]) -> Ruling
-    requires { ⌜ length (rosterOf rs) ≡ places (now elements) ⌝ }
-    requires { ⌜ length (now block) ≡ 12 ⌝ }
-    ensures { λ r. ⌜ r ≡ moveBy (rosterOf rs) lowest (now (elements .entry)) host (now (block .entry)) ⌝ }
-    ensures { λ r. ⌜ Within (places (now (elements .entry))) r ⌝ }
-{
-    let masks = [0x1F, 0, 0, 0, 0, 0, 0, 0xFF, 0xFF, 0xFF, 0xFF];
-    if order::stray(block, &masks) {
-        return Ruling::Check(0x24, 0x00);
-    }
-    let Found::At(arm) = transport_at(rs, used(wire::word_at(block, 2), lowest)) else {
-        return Ruling::Check(0x21, 0x01);
-    };
-    let Found::At(from) = spot_at(rs, wire::word_at(block, 4) as u32) else {
-        return Ruling::Check(0x21, 0x01);
-    };
-    let Found::At(to) = spot_at(rs, wire::word_at(block, 6) as u32) else {
-        return Ruling::Check(0x21, 0x01);
-    };
-    move_at(elements, host, arm, from, to)
-}
-
-// EXCHANGE, steps 5 to 8, from the transport's place.
-fn exchange_spots(rs: [Range; 4], elements: &[u8], host: u8, block: &[u8], arm: usize) -> Ruling
-    requires { ⌜ length (rosterOf rs) ≡ places (now elements) ⌝ }
+// EXCHANGE, steps 5 to 8, from the transport's place on: "4-5 source, 6-7 first destination, 8-9 second"
+fn exchange_spots(runs: [Range; 4], elements: &[u8], host: u8, block: &[u8], arm: usize) -> Ruling
+    requires { ⌜ length (laid runs) ≡ places (now elements) ⌝ }
     requires { ⌜ length (now block) ≡ 12 ⌝ }
     requires { ⌜ arm < places (now elements) ⌝ }
-    ensures { λ r. ⌜ r ≡ exchangeSpots (rosterOf rs) (now (elements .entry)) host (now (block .entry)) arm ⌝ }
+    ensures { λ r. ⌜ r ≡ exchangeSpots (laid runs) (now (elements .entry)) host (now (block .entry)) arm ⌝ }
     ensures { λ r. ⌜ Within (places (now (elements .entry))) r ⌝ }
 {
     let source = wire::word_at(block, 4);
     let nearer = wire::word_at(block, 6);
     let farther = wire::word_at(block, 8);
-    let Found::At(from) = spot_at(rs, source as u32) else {
-        return Ruling::Check(0x21, 0x01);
+    let Found::At(from) = tables::find(runs, source as u32, Types::Place) else {
+        return Ruling::Refused(Cause::WrongAddress);
     };
-    let Found::At(first) = spot_at(rs, nearer as u32) else {
-        return Ruling::Check(0x21, 0x01);
+    let Found::At(first) = tables::find(runs, nearer as u32, Types::Place) else {
+        return Ruling::Refused(Cause::WrongAddress);
     };
-    let Found::At(second) = spot_at(rs, farther as u32) else {
-        return Ruling::Check(0x21, 0x01);
+    let Found::At(second) = tables::find(runs, farther as u32, Types::Place) else {
+        return Ruling::Refused(Cause::WrongAddress);
     };
     if nearer == source {
-        return Ruling::Check(0x21, 0x01);
+        return Ruling::Refused(Cause::WrongAddress);
     }
     exchange_at(elements, host, arm, from, first, second, farther == source)
 }
 
-// EXCHANGE, steps 4 to 8.
-fn judge_exchange(rs: [Range; 4], lowest: u16, elements: &[u8], host: u8, block: &[u8]) -> Ruling
-    requires { ⌜ length (rosterOf rs) ≡ places (now elements) ⌝ }
+// EXCHANGE, steps 5 to 8: "2-3 transport"
+fn judge_exchange(runs: [Range; 4], elements: &[u8], host: u8, block: &[u8]) -> Ruling
+    requires { ⌜ length (laid runs) ≡ places (now elements) ⌝ }
     requires { ⌜ length (now block) ≡ 12 ⌝ }
-    ensures { λ r. ⌜ r ≡ exchangeBy (rosterOf rs) lowest (now (elements .entry)) host (now (block .entry)) ⌝ }
+    ensures { λ r. ⌜ r ≡ exchangeBy (laid runs) (now (elements .entry)) host (now (block .entry)) ⌝ }
     ensures { λ r. ⌜ Within (places (now (elements .entry))) r ⌝ }
 {
-    let masks = [0x1F, 0, 0, 0, 0, 0, 0, 0, 0, 0xFF, 0xFF];
-    if order::stray(block, &masks) {
-        return Ruling::Check(0x24, 0x00);
-    }
-    let Found::At(arm) = transport_at(rs, used(wire::word_at(block, 2), lowest)) else {
-        return Ruling::Check(0x21, 0x01);
+    let Found::At(arm) = arm_of(runs, wire::word_at(block, 2)) else {
+        return Ruling::Refused(Cause::WrongAddress);
     };
-    exchange_spots(rs, elements, host, block, arm)
+    exchange_spots(runs, elements, host, block, arm)
 }
 
 // The volume goes from one place to another: "whose source address becomes the address it was taken from"; "The place left has volume 0,
 // source 0, mark 0".
-fn carry(elements: &mut [u8], from: usize, to: usize, address: u16)
+fn carry(elements: &mut [u8], block: &[u8], from: usize, to: usize, volume: u16)
+    requires { ⌜ length (now block) ≡ 12 ⌝ }
     requires { ⌜ from < places (now elements) ⌝ }
     requires { ⌜ to < places (now elements) ⌝ }
-    ensures { λ _. ⌜ now (elements .exit) ≡ carried (now (elements .entry)) from to address ⌝ }
+    ensures { λ _. ⌜ now (elements .exit) ≡ carried (now (elements .entry)) (now (block .entry)) from to volume ⌝ }
 {
-    let volume = tables::element::volume(elements, from);
     tables::element::fill(elements, from, 0, 0, 0);
-    tables::element::fill(elements, to, volume, address, 0);
+    tables::element::fill(elements, to, volume, wire::word_at(block, 4), 0);
 }
 
-// Both volumes are read before a place is written.
-fn swap(elements: &mut [u8], from: usize, first: usize, second: usize, source: u16, nearer: u16)
+// Both volumes were read before a place is written.
+fn swap(
+    elements: &mut [u8],
+    block: &[u8],
+    from: usize,
+    first: usize,
+    second: usize,
+    brought: u16,
+    displaced: u16,
+)
+    requires { ⌜ length (now block) ≡ 12 ⌝ }
     requires { ⌜ from < places (now elements) ⌝ }
     requires { ⌜ first < places (now elements) ⌝ }
     requires { ⌜ second < places (now elements) ⌝ }
-    ensures { λ _. ⌜ now (elements .exit) ≡ swapped (now (elements .entry)) from first second source nearer ⌝ }
+    ensures { λ _. ⌜ now (elements .exit) ≡ swapped (now (elements .entry)) (now (block .entry)) from first second brought displaced ⌝ }
 {
-    let near = tables::element::volume(elements, from);
-    let far = tables::element::volume(elements, first);
     tables::element::fill(elements, from, 0, 0, 0);
     tables::element::fill(elements, first, 0, 0, 0);
-    tables::element::fill(elements, second, far, nearer, 0);
-    tables::element::fill(elements, first, near, source, 0);
+    tables::element::fill(elements, second, displaced, wire::word_at(block, 6), 0);
+    tables::element::fill(elements, first, brought, wire::word_at(block, 4), 0);
 }
 
 // Carries out what was judged.
-fn settle(head: &mut [u8], elements: &mut [u8], host: u8, block: &[u8], ruling: Ruling) -> Reply
+fn carry_out(head: &mut [u8], elements: &mut [u8], host: u8, block: &[u8], ruling: Ruling) -> Reply
     requires { ⌜ headSize ≤ length (now head) ⌝ }
     requires { ⌜ host ≤ hosts ⌝ }
     requires { ⌜ length (now block) ≡ 12 ⌝ }
     requires { ⌜ Within (places (now elements)) ruling ⌝ }
-    ensures { λ r. ⌜ ((rest : Rest) (buffer : List ℕ) → ended r (lent (now (head .exit)) (now (elements .exit)) rest) buffer ≡ outcome (lent (now (head .entry)) (now (elements .entry)) rest) buffer (meaning host (now (elements .entry)) (now (block .entry)) ruling)) ⌝ }
+    ensures { λ r. ⌜ ((rest : Rest) (buffer : List ℕ) → ended r (lent (now (head .exit)) (now (elements .exit)) rest) buffer ≡ outcome (lent (now (head .entry)) (now (elements .entry)) rest) buffer (meaning host (now (block .entry)) ruling)) ⌝ }
 {
     match ruling {
-        Ruling::Move { from, to } => {
-            carry(elements, from, to, wire::word_at(block, 4));
+        Ruling::Move { from, to, volume } => {
+            carry(elements, block, from, to, volume);
             return order::good(head, host);
         }
         Ruling::Exchange {
             from,
             first,
             second,
+            brought,
+            displaced,
         } => {
-            swap(
-                elements,
-                from,
-                first,
-                second,
-                wire::word_at(block, 4),
-                wire::word_at(block, 6),
-            );
+            swap(elements, block, from, first, second, brought, displaced);
             return order::good(head, host);
         }
-        Ruling::Check(asc, ascq) => {
-            return order::check(head, host, 5, asc, ascq);
+        Ruling::Refused(cause) => {
+            return order::refuse(head, host, cause);
         }
         Ruling::Conflict => {
             return order::conflict(head, host);
@@ -298,28 +282,36 @@ fn settle(head: &mut [u8], elements: &mut [u8], host: u8, block: &[u8], ruling: 
     }
 }
 
-// MOVE MEDIUM from step 4 on.
-pub fn move_medium(head: &mut [u8], elements: &mut [u8], host: u8, block: &[u8]) -> Reply
-    requires { ⌜ Ready (now head) (now elements) ⌝ }
+// MOVE MEDIUM from step 5 on.
+pub fn move_medium(
+    runs: [Range; 4],
+    head: &mut [u8],
+    elements: &mut [u8],
+    host: u8,
+    block: &[u8],
+) -> Reply
+    requires { ⌜ Ready runs (now head) (now elements) ⌝ }
     requires { ⌜ host ≤ hosts ⌝ }
     requires { ⌜ length (now block) ≡ 12 ⌝ }
     ensures { λ r. ⌜ ((rest : Rest) (buffer : List ℕ) → ended r (lent (now (head .exit)) (now (elements .exit)) rest) buffer ≡ outcome (lent (now (head .entry)) (now (elements .entry)) rest) buffer (moveVerdict (lent (now (head .entry)) (now (elements .entry)) rest) host (now (block .entry)))) ⌝ }
 {
-    let rs = tables::ranges(head);
-    let lowest = tables::first_transport(head);
-    let ruling = judge_move(rs, lowest, elements, host, block);
-    settle(head, elements, host, block, ruling)
+    let ruling = judge_move(runs, elements, host, block);
+    carry_out(head, elements, host, block, ruling)
 }
 
-// EXCHANGE MEDIUM from step 4 on.
-pub fn exchange_medium(head: &mut [u8], elements: &mut [u8], host: u8, block: &[u8]) -> Reply
-    requires { ⌜ Ready (now head) (now elements) ⌝ }
+// EXCHANGE MEDIUM from step 5 on.
+pub fn exchange_medium(
+    runs: [Range; 4],
+    head: &mut [u8],
+    elements: &mut [u8],
+    host: u8,
+    block: &[u8],
+) -> Reply
+    requires { ⌜ Ready runs (now head) (now elements) ⌝ }
     requires { ⌜ host ≤ hosts ⌝ }
     requires { ⌜ length (now block) ≡ 12 ⌝ }
     ensures { λ r. ⌜ ((rest : Rest) (buffer : List ℕ) → ended r (lent (now (head .exit)) (now (elements .exit)) rest) buffer ≡ outcome (lent (now (head .entry)) (now (elements .entry)) rest) buffer (exchangeVerdict (lent (now (head .entry)) (now (elements .entry)) rest) host (now (block .entry)))) ⌝ }
 {
-    let rs = tables::ranges(head);
-    let lowest = tables::first_transport(head);
-    let ruling = judge_exchange(rs, lowest, elements, host, block);
-    settle(head, elements, host, block, ruling)
+    let ruling = judge_exchange(runs, elements, host, block);
+    carry_out(head, elements, host, block, ruling)
 }

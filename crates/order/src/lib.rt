@@ -1,11 +1,37 @@
-// What every command shares: the reply, the three statuses, and bits without a use.
+// What every command shares: the reply, the three statuses, the causes of a refusal, and how an answer is cut.
 ghost use mathlib.Core.Path.{_≡_};
 ghost use mathlib.Core.List.{List, []};
-ghost use Prim.Native.Nat.{ℕ, _+_, _≤_};
+ghost use Prim.Native.Nat.{ℕ, _≤_, min};
 ghost use lib.ListN.{length};
 ghost use Rattle.rules.specs.Tables.{headSize, hosts, lent, Rest};
-ghost use Rattle.rules.specs.Order.{outcome, other as otherThan, good as goodVerdict, check as checkVerdict, conflict as conflictVerdict, stray as strayIn};
-ghost use Rattle.order.specs.Ending.{ended, numbered as numberedOf, told as toldOf};
+ghost use Rattle.rules.specs.Order.{outcome, refused, other as otherThan, good as goodVerdict, check as checkVerdict, conflict as conflictVerdict};
+ghost use Rattle.order.specs.Ending.{ended, numbered as numberedOf, told as toldOf, reason};
+
+// "GOOD is 00h, CHECK CONDITION 02h, RESERVATION CONFLICT 18h."
+pub const GOOD: u8 = 0x00;
+
+pub const CHECK_CONDITION: u8 = 0x02;
+
+pub const RESERVATION_CONFLICT: u8 = 0x18;
+
+// House number 5: "answer buffer shorter than the bytes to be returned"
+pub const TOO_SHORT: u8 = 5;
+
+// The sense keys: of a refusal, and of attention.
+const ILLEGAL_REQUEST: u8 = 5;
+
+pub const UNIT_ATTENTION: u8 = 6;
+
+// Why a command is refused with key 5; a field of the block that is at fault, with its byte.
+pub enum Cause {
+    InvalidOperation,
+    InvalidField(usize),
+    ListLength,
+    ListField,
+    WrongAddress,
+    SourceEmpty,
+    DestinationFull,
+}
 
 // What a call hands back beside the tables and the answer buffer.
 #[repr(C)]
@@ -43,6 +69,13 @@ pub fn told(status: u8, count: u32) -> Reply
     }
 }
 
+// An answer cut at the allocation: "the first min(allocation, n) bytes", how many.
+pub fn cut(allocation: usize, n: usize) -> usize
+    ensures { λ r. ⌜ r ≡ min allocation n ⌝ }
+{
+    wire::least(allocation, n)
+}
+
 // Held, and not by this host.
 pub fn other(host: u8, owner: u8) -> bool
     ensures { λ r. ⌜ r ≡ otherThan host owner ⌝ }
@@ -53,22 +86,6 @@ pub fn other(host: u8, owner: u8) -> bool
     owner != host
 }
 
-// Whether a bit without a use is set: the masks have those bits of each byte of the block from byte 1 on.
-pub fn stray(block: &[u8], masks: &[u8]) -> bool
-    requires { ⌜ length (now masks) + 1 ≤ length (now block) ⌝ }
-    ensures { λ r. ⌜ r ≡ strayIn (now (masks .entry)) (now (block .entry)) ⌝ }
-{
-    let n = masks.len();
-    let mut i: usize = 0;
-    while i < n {
-        if block[i + 1] & masks[i] != 0 {
-            return true;
-        }
-        i += 1;
-    }
-    false
-}
-
 // "first clears its host's sense": GOOD, with nothing else changed.
 pub fn good(head: &mut [u8], host: u8) -> Reply
     requires { ⌜ headSize ≤ length (now head) ⌝ }
@@ -76,17 +93,34 @@ pub fn good(head: &mut [u8], host: u8) -> Reply
     ensures { λ r. ⌜ ((elements : List ℕ) (rest : Rest) (buffer : List ℕ) → ended r (lent (now (head .exit)) elements rest) buffer ≡ outcome (lent (now (head .entry)) elements rest) buffer (goodVerdict host [])) ⌝ }
 {
     tables::head::wipe(head, host);
-    told(0x00, 0)
+    told(GOOD, 0)
 }
 
-// "CHECK CONDITION then stores the new one": key, ASC, ASCQ.
-pub fn check(head: &mut [u8], host: u8, key: u8, asc: u8, ascq: u8) -> Reply
+// CHECK CONDITION with key 5: "then stores the new one"
+fn check(head: &mut [u8], host: u8, asc: u8, ascq: u8) -> Reply
     requires { ⌜ headSize ≤ length (now head) ⌝ }
     requires { ⌜ host ≤ hosts ⌝ }
-    ensures { λ r. ⌜ ((elements : List ℕ) (rest : Rest) (buffer : List ℕ) → ended r (lent (now (head .exit)) elements rest) buffer ≡ outcome (lent (now (head .entry)) elements rest) buffer (checkVerdict host key asc ascq)) ⌝ }
+    ensures { λ r. ⌜ ((elements : List ℕ) (rest : Rest) (buffer : List ℕ) → ended r (lent (now (head .exit)) elements rest) buffer ≡ outcome (lent (now (head .entry)) elements rest) buffer (checkVerdict host 5 asc ascq)) ⌝ }
 {
-    tables::head::note(head, host, key, asc, ascq);
-    told(0x02, 0)
+    tables::head::note(head, host, ILLEGAL_REQUEST, asc, ascq);
+    told(CHECK_CONDITION, 0)
+}
+
+// Refused with key 5 and the cause's ASC and ASCQ.
+pub fn refuse(head: &mut [u8], host: u8, cause: Cause) -> Reply
+    requires { ⌜ headSize ≤ length (now head) ⌝ }
+    requires { ⌜ host ≤ hosts ⌝ }
+    ensures { λ r. ⌜ ((elements : List ℕ) (rest : Rest) (buffer : List ℕ) → ended r (lent (now (head .exit)) elements rest) buffer ≡ outcome (lent (now (head .entry)) elements rest) buffer (refused host (reason cause))) ⌝ }
+{
+    match cause {
+        Cause::InvalidOperation => check(head, host, 0x20, 0x00),
+        Cause::InvalidField(_) => check(head, host, 0x24, 0x00),
+        Cause::ListLength => check(head, host, 0x1A, 0x00),
+        Cause::ListField => check(head, host, 0x26, 0x00),
+        Cause::WrongAddress => check(head, host, 0x21, 0x01),
+        Cause::SourceEmpty => check(head, host, 0x3B, 0x0E),
+        Cause::DestinationFull => check(head, host, 0x3B, 0x0D),
+    }
 }
 
 // RESERVATION CONFLICT: the sense is cleared, none is stored.
@@ -96,5 +130,5 @@ pub fn conflict(head: &mut [u8], host: u8) -> Reply
     ensures { λ r. ⌜ ((elements : List ℕ) (rest : Rest) (buffer : List ℕ) → ended r (lent (now (head .exit)) elements rest) buffer ≡ outcome (lent (now (head .entry)) elements rest) buffer (conflictVerdict host)) ⌝ }
 {
     tables::head::wipe(head, host);
-    told(0x18, 0)
+    told(RESERVATION_CONFLICT, 0)
 }

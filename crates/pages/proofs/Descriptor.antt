@@ -15,7 +15,7 @@ use Rattle.rules.specs.Roster.{Slot, slots}
 use Rattle.rules.specs.Listing.{label, front, descriptor, width, joined, pageHeader}
 use Rattle.rules.specs.Bytes.{three}
 use Rattle.rules.proofs.Ladder.{on}
-use Rattle.pages.specs.Pages.{Labelled, slot, descriptors, used, shown}
+use Rattle.pages.specs.Pages.{Labelled, slot, descriptors, pageBytes, shown}
 
 pub label-length : (tags blank : List ℕ) (v : ℕ) → length blank ≡ tagSize → tagSize * v ≤ length tags → length (label tags blank v) ≡ tagSize
 unfolding label
@@ -85,19 +85,19 @@ run-length tagged t k a p (suc n) ok h =
 
 -- ---- a page
 
-pub used-few : (tagged : Bool) (m : ℕ) → m < 65536 → used tagged m < 3407880
-unfolding used
-used-few tagged m h =
+pub page-bytes-few : (tagged : Bool) (m : ℕ) → m < 65536 → pageBytes tagged m < 3407880
+unfolding pageBytes
+page-bytes-few tagged m h =
     let w = times-width tagged m h in
     on (λ (x : ℕ). x < 3407880) (eqb m 0) (λ e. omega arith) (λ e. omega arith)
 
-pub used-is : (tagged : Bool) (m : ℕ) → (m ≡ 0 → ⊥) → used tagged m ≡ 8 + m * width tagged
-unfolding used when
-used-is tagged m h = rw (ne-eqb m 0 h)
+pub page-bytes-is : (tagged : Bool) (m : ℕ) → (m ≡ 0 → ⊥) → pageBytes tagged m ≡ 8 + m * width tagged
+unfolding pageBytes when
+page-bytes-is tagged m h = rw (ne-eqb m 0 h)
 
 pub shown-length : (tagged : Bool) (t : Tables) (k a p n m : ℕ) → Labelled t → (0 < m → elementAt (p + m) ≤ length (t .elements))
-    → length (shown tagged t k a p n m) ≡ used tagged m
-unfolding shown used when
+    → length (shown tagged t k a p n m) ≡ pageBytes tagged m
+unfolding shown pageBytes when
 shown-length tagged t k a p n zero ok h = refl
 shown-length tagged t k a p n (suc m) ok h =
     let r = run-length tagged t k a p (suc m) ok (h (omega arith)) in

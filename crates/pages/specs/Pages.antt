@@ -28,8 +28,8 @@ abbrev pub descriptors : Bool → Tables → List Slot → List ℕ
 descriptors tagged t ss = joined (map (descriptor tagged t) ss)
 
 -- the bytes of a page header and m descriptors; of none, none
-unfoldable pub used : Bool → ℕ → ℕ
-used tagged m = when (eqb m 0) 0 (8 + m * width tagged)
+unfoldable pub pageBytes : Bool → ℕ → ℕ
+pageBytes tagged m = when (eqb m 0) 0 (8 + m * width tagged)
 
 -- a page of n elements, of which the first m are returned
 unfoldable pub shown : Bool → Tables → ℕ → ℕ → ℕ → ℕ → ℕ → List ℕ

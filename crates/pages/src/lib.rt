@@ -8,11 +8,19 @@ ghost use Rattle.rules.specs.Bytes.{put};
 ghost use Rattle.rules.specs.Tables.{elementAt, elementSize, tagSize};
 ghost use Rattle.rules.specs.Roster.{slots, port};
 ghost use Rattle.rules.specs.Listing.{flags as flagsOf, sourceStands, label as labelOf, front as frontOf, fourZeros, descriptor, width as widthOf, pageHeader, header as headerOf};
-ghost use Rattle.pages.specs.Pages.{stock, Labelled, slot, descriptors, used, shown};
+ghost use Rattle.pages.specs.Pages.{stock, Labelled, slot, descriptors, pageBytes, shown};
 
-const LABEL: usize = 36;
+// The header of a listing, and that of a page.
+pub const HEADER: usize = 8;
 
-const HEADER: usize = 8;
+// "Descriptor, 16 bytes or 52": where the label begins and ends in one with tags, and the four 0 behind.
+const FRONT: usize = 12;
+
+const PLAIN: usize = FRONT + 4;
+
+const LABEL_END: usize = FRONT + layout::TAG_SIZE;
+
+const TAGGED: usize = LABEL_END + 4;
 
 // ---- a descriptor
 
@@ -21,14 +29,14 @@ fn copy_label(d: &mut [u8], label: &[u8])
     requires { ⌜ (length (now label) ≡ tagSize) × (tagSize ≤ length (now d)) ⌝ }
     ensures { λ _. ⌜ now (d .exit) ≡ put (now (d .entry)) 0 (now (label .entry)) ⌝ }
 {
-    let mut x = [0u8; LABEL];
+    let mut x = [0u8; layout::TAG_SIZE];
     let mut i = 0;
-    while i < LABEL {
+    while i < layout::TAG_SIZE {
         x[i] = label[i];
         i += 1;
     }
     let mut j = 0;
-    while j < LABEL {
+    while j < layout::TAG_SIZE {
         d[j] = x[j];
         j += 1;
     }
@@ -80,7 +88,7 @@ fn without_label(d: &mut [u8], address: usize, flags: u8, source: u16)
     ensures { λ _. ⌜ now (d .exit) ≡ put (now (d .entry)) 0 (frontOf address flags source ++ fourZeros) ⌝ }
 {
     front(d, address, flags, source);
-    zeros(&mut d[12..16]);
+    zeros(&mut d[FRONT..PLAIN]);
 }
 
 // A descriptor of 52 bytes.
@@ -89,8 +97,8 @@ fn with_label(d: &mut [u8], address: usize, flags: u8, source: u16, label: &[u8]
     ensures { λ _. ⌜ now (d .exit) ≡ put (now (d .entry)) 0 (frontOf address flags source ++ (now (label .entry) ++ fourZeros)) ⌝ }
 {
     front(d, address, flags, source);
-    copy_label(&mut d[12..48], label);
-    zeros(&mut d[48..52]);
+    copy_label(&mut d[FRONT..LABEL_END], label);
+    zeros(&mut d[LABEL_END..TAGGED]);
 }
 
 // "The label shown is the volume's own record, or the blank label if empty": a part of the tags, chosen beside the blank label.
@@ -101,8 +109,8 @@ pub fn label<'a>(tags: &'a [u8], blank: &'a [u8], volume: u16) -> &'a [u8]
     if volume == 0 {
         return blank;
     }
-    let from = LABEL * ((volume - 1) as usize);
-    let to = from + LABEL;
+    let from = layout::TAG_SIZE * ((volume - 1) as usize);
+    let to = from + layout::TAG_SIZE;
     &tags[from..to]
 }
 
@@ -126,10 +134,10 @@ fn port_flags(volume: u16, mark: u8) -> u8
 fn flags(kind: u8, volume: u16, mark: u8) -> u8
     ensures { λ r. ⌜ r ≡ flagsOf kind volume mark ⌝ }
 {
-    if kind == tables::TRANSPORT {
+    if kind == layout::TRANSPORT {
         return 0x00;
     }
-    if kind == tables::PORT {
+    if kind == layout::PORT {
         return port_flags(volume, mark);
     }
     if volume == 0 {
@@ -143,9 +151,9 @@ pub fn width(tagged: bool) -> usize
     ensures { λ r. ⌜ r ≡ widthOf tagged ⌝ }
 {
     if tagged {
-        return 52;
+        return TAGGED;
     }
-    16
+    PLAIN
 }
 
 // Writes the descriptor of the element at a place.
@@ -234,12 +242,9 @@ fn page_header(d: &mut [u8], tagged: bool, kind: u8, n: usize)
     let bytes = n * w;
     d[0] = kind;
     d[1] = tag_mark(tagged);
-    d[2] = (w / 256) as u8;
-    d[3] = (w % 256) as u8;
+    wire::put_word(d, 2, w as u16);
     d[4] = 0;
-    d[5] = (bytes / 65536) as u8;
-    d[6] = (bytes / 256 % 256) as u8;
-    d[7] = (bytes % 256) as u8;
+    wire::put_triple(d, 5, bytes as u32);
 }
 
 // Writes a page of n elements, of which the first m are returned, from a place of the answer on.
@@ -256,7 +261,7 @@ pub fn put_page<'a>(
     n: usize,
     m: usize,
 )
-    requires { ⌜ at + used tagged m ≤ length (now answer) ⌝ }
+    requires { ⌜ at + pageBytes tagged m ≤ length (now answer) ⌝ }
     requires { ⌜ (address + m ≤ 65536) × ((n < 65536) × (m < 65536)) ⌝ }
     requires { ⌜ elementAt (place + m) ≤ length (now elements) ⌝ }
     requires { ⌜ Labelled (stock (now elements) (now tags) (now blank)) ⌝ }
@@ -288,12 +293,8 @@ pub fn header(d: &mut [u8], first: usize, n: usize, bytes: usize)
     requires { ⌜ (8 ≤ length (now d)) × ((first < 65536) × ((n < 65536) × (bytes < 16777216))) ⌝ }
     ensures { λ _. ⌜ now (d .exit) ≡ put (now (d .entry)) 0 (headerOf first n bytes) ⌝ }
 {
-    d[0] = (first / 256) as u8;
-    d[1] = (first % 256) as u8;
-    d[2] = (n / 256) as u8;
-    d[3] = (n % 256) as u8;
+    wire::put_word(d, 0, first as u16);
+    wire::put_word(d, 2, n as u16);
     d[4] = 0;
-    d[5] = (bytes / 65536) as u8;
-    d[6] = (bytes / 256 % 256) as u8;
-    d[7] = (bytes % 256) as u8;
+    wire::put_triple(d, 5, bytes as u32);
 }

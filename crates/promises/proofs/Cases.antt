@@ -1,8 +1,7 @@
 -- Every row of the table holds: the rules' computed table, row by row. Assumes nothing.
-use mathlib.Core.Path.{_≡_, ap, sym, _∙_}
-use mathlib.Core.List.{List, [], _∷_, List·Memᴰ}
-use Rattle.rules.specs.Cases.{Case, cases}
-use Rattle.rules.proofs.Cases.{AllHold, none, one, Holds, cases-hold}
+use mathlib.Core.List.{List, List·Memᴰ}
+use Rattle.rules.specs.Cases.{Case}
+use Rattle.rules.proofs.Cases.{AllHold, one, Holds, cases-hold}
 use Rattle.promises.specs.Cases.{CasesHold}
 
 row : {cs : List Case} → AllHold cs → (c : Case) → List·Memᴰ c cs → Holds c

@@ -1,6 +1,6 @@
 -- Demand 3 holds. Assumes nothing.
 use Rattle.rules.proofs.Mix.{mixing}
-use Rattle.promises.specs.Demand3.{AsIfAlone, Demand3}
+use Rattle.promises.specs.Demand3.{Demand3}
 
 pub demand3 : Demand3
 demand3 h g n xs ys zs fx fy a m t =

@@ -1,5 +1,4 @@
 -- Listings are honest: the laws of the listing's header and of its cuts. Assumes nothing.
-use mathlib.Core.List.{List}
 use Rattle.rules.specs.Listing.{withTags, chosenBy}
 use Rattle.rules.proofs.Header.{header-tells, listing-begins, listing-ends, listing-all, whole}
 use Rattle.promises.specs.Listings.{HonestListings}

@@ -1,14 +1,18 @@
 -- Demand 1 holds. Assumes nothing.
-use Prim.Native.Nat.{_≤_}
+use Prim.Native.Nat.{ℕ, _≤_}
+use mathlib.Core.Path.{_≡_}
+use mathlib.Core.Bool.{true}
 use native.Mathlib.Omega.{arith}
-use mathlib.Core.Logic.{inl, inr}
+use mathlib.Core.Logic.{_⊎_, inl, inr}
 use lib.ListN.{length}
-use borrow.Author.Tests.{eqb-true}
+use Rattle.rules.specs.Bytes.{byte}
 use Rattle.rules.specs.Tables.{Tables}
 use Rattle.rules.specs.Order.{GOOD, CHECK-CONDITION}
+use Rattle.rules.specs.Operation.{Operation, TestUnitReady, RequestSense, Reserve, Release, PreventAllow, MoveMedium, ExchangeMedium, ReadElementStatus, Unknown, REQUEST-SENSE, READ-ELEMENT-STATUS, decoded, operation}
 use Rattle.rules.specs.Command.{Call, Command, Import, Export, Reset, bufferOf, serve, verdict}
-use Rattle.rules.proofs.Ladder.{either, any-cases, any-nil}
-use Rattle.rules.proofs.Untouched.{number-untouched, preventers-none, buffer-past, buffer-length, event-quiet, Event, status-own, status-three, count-reads, count-fits}
+use Rattle.rules.proofs.Ladder.{either, never}
+use Rattle.rules.proofs.Operations.{First, decoded-first}
+use Rattle.rules.proofs.Untouched.{number-untouched, preventers-none, buffer-past, buffer-length, event-quiet, Event, status-own, status-three, count-reads, count-fits, reads}
 use Rattle.promises.specs.Refusals.{ByNumber, SevenAlone, ThreeStatuses, ByStatus, BufferKept, OnlyReads}
 
 pub by-number : ByNumber
@@ -52,10 +56,22 @@ buffer-kept t c =
       fits = fits t c;
     }
 
+reads-first : (b : ℕ) (op : Operation) → reads op ≡ true → First op b → (b ≡ REQUEST-SENSE) ⊎ (b ≡ READ-ELEMENT-STATUS)
+reads-first b TestUnitReady m e = absurd (never m)
+reads-first b RequestSense m e = inl e
+reads-first b Reserve m e = absurd (never m)
+reads-first b Release m e = absurd (never m)
+reads-first b PreventAllow m e = absurd (never m)
+reads-first b MoveMedium m e = absurd (never m)
+reads-first b ExchangeMedium m e = absurd (never m)
+reads-first b ReadElementStatus m e = inr e
+reads-first b Unknown m e = absurd (never m)
+
 pub only-reads : OnlyReads
+unfolding operation
 only-reads t (Command r) n =
     let c = count-reads t r n in
-    (c .0, any-cases _ _ (c .1) (λ e. inl (eqb-true _ _ e)) λ e. any-cases _ _ e (λ e. inr (eqb-true _ _ e)) λ e. absurd (any-nil e))
+    (c .0, reads-first (byte (r .block) 0) (decoded (byte (r .block) 0)) (c .1) (decoded-first (byte (r .block) 0)))
 only-reads t (Import a v) n = absurd (n (event-quiet t (Import a v) tt .1))
 only-reads t (Export a) n = absurd (n (event-quiet t (Export a) tt .1))
 only-reads t Reset n = absurd (n (event-quiet t Reset tt .1))

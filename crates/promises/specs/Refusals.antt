@@ -6,7 +6,8 @@ use lib.ListN.{length}
 use Rattle.rules.specs.Bytes.{byte}
 use Rattle.rules.specs.Tables.{Tables, hostAt}
 use Rattle.rules.specs.Order.{Outcome, GOOD, CHECK-CONDITION, RESERVATION-CONFLICT}
-use Rattle.rules.specs.Command.{Request, Call, Command, Import, Export, Reset, operation, REQUEST-SENSE, READ-ELEMENT-STATUS, bufferOf, serve}
+use Rattle.rules.specs.Operation.{REQUEST-SENSE, READ-ELEMENT-STATUS}
+use Rattle.rules.specs.Command.{Request, Call, Command, Import, Export, Reset, bufferOf, serve}
 
 -- ---- refused by a house number
 
@@ -57,7 +58,7 @@ BufferKept = (t : Tables) (c : Call) → Kept c (serve t c)
 
 -- "Only REQUEST SENSE and READ ELEMENT STATUS with GOOD return bytes; every other count is 0."
 abbrev pub Reads : Call → Type 0
-Reads (Command r) = (operation (r .block) ≡ REQUEST-SENSE) ⊎ (operation (r .block) ≡ READ-ELEMENT-STATUS)
+Reads (Command r) = (byte (r .block) 0 ≡ REQUEST-SENSE) ⊎ (byte (r .block) 0 ≡ READ-ELEMENT-STATUS)
 Reads (Import address volume) = ⊥
 Reads (Export address) = ⊥
 Reads Reset = ⊥

@@ -3,7 +3,8 @@ use Prim.Native.Nat.{ℕ, _+_, _*_}
 use mathlib.Core.Path.{_≡_, refl, ap}
 use mathlib.Core.List.{List}
 use Rattle.rules.specs.Bytes.{word}
-use Rattle.rules.specs.Holds.{descriptorSize, reservedBytes, number, address}
+use Rattle.rules.specs.Tables.{descriptorSize}
+use Rattle.rules.specs.Holds.{reservedBytes, number, address}
 use Rattle.reader.specs.declared.Step.{Step}
 use Rattle.reader.specs.Read.{stepAt}
 

@@ -2,7 +2,7 @@
 use Prim.Native.Nat.{ℕ, _+_}
 use mathlib.Core.List.{List}
 use Rattle.rules.specs.Bytes.{word}
-use Rattle.rules.specs.Holds.{descriptorSize}
+use Rattle.rules.specs.Tables.{descriptorSize}
 use Rattle.reader.specs.declared.Step.{Step}
 
 unfoldable pub stepAt : List ℕ → ℕ → Step

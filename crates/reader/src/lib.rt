@@ -2,11 +2,8 @@
 ghost use mathlib.Core.Path.{_≡_};
 ghost use Prim.Native.Nat.{_+_, _≤_};
 ghost use lib.ListN.{length};
-ghost use Rattle.rules.specs.Holds.{descriptorSize};
+ghost use Rattle.rules.specs.Tables.{descriptorSize};
 ghost use Rattle.reader.specs.Read.{stepAt};
-
-// What a descriptor takes.
-pub const SIZE: usize = 6;
 
 pub struct Reader<'a> {
     pub list: &'a [u8],
@@ -30,7 +27,7 @@ fn descriptor_at(list: &[u8], at: usize) -> Step
         reserved: wire::word_at(list, at),
         number: wire::word_at(list, at + 2),
         address: wire::word_at(list, at + 4),
-        after: at + SIZE,
+        after: at + layout::DESCRIPTOR_SIZE,
     }
 }
 

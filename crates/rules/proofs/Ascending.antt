@@ -2,31 +2,21 @@
 -- place of a rising roster. Assumes nothing.
 use Prim.Native.Nat.{ℕ, zero, suc, _+_, _≤_}
 use native.Mathlib.Omega.{arith}
-use mathlib.Core.Path.{_≡_, refl, sym, ap, _∙_}
-use mathlib.Core.Logic.{_≢_, _⊎_, inl, inr}
+use mathlib.Core.Path.{_≡_, refl, sym}
+use mathlib.Core.Logic.{_⊎_, inl, inr}
 use mathlib.Core.List.{List, [], _∷_, _++_}
 use mathlib.Core.Bool.{Bool, true, false}
 use lib.Dec.{leb, T}
-use lib.ListN.{length, length-append}
 use borrow.Author.Tests.{leb-true, leb-false}
 use Rattle.rules.specs.Choice.{when}
 use Rattle.rules.specs.Tables.{Tables}
 use Rattle.rules.specs.Roster.{Slot, Range, range, ranges, slots, spread, insert, sorted, roster}
+use Rattle.rules.specs.Ranges.{Each, Pairs, Differ}
 use Rattle.rules.specs.Sound.{behind, noOverlap, clear, rangesSound, headSound, sound}
 use Rattle.rules.proofs.Ladder.{on, either, any-cases, any-nil, all-first, all-rest}
 use Rattle.rules.proofs.Soundness.{RangeFits, range-true}
 
 -- ---- what sorting keeps
-
--- each range of a list
-abbrev pub Each : (Range → Type 0) → List Range → Type 0
-Each P [] = T true
-Each P (r ∷ rs) = P r × Each P rs
-
--- each range of a list with each behind it
-abbrev pub Pairs : (Range → Range → Type 0) → List Range → Type 0
-Pairs R [] = T true
-Pairs R (r ∷ rs) = Each (R r) rs × Pairs R rs
 
 pub each-map : (P Q : Range → Type 0) → ((r : Range) → P r → Q r) → (rs : List Range) → Each P rs → Each Q rs
 each-map P Q f [] ps = tt
@@ -57,11 +47,6 @@ unfolding sorted
 sorted-pairs R back [] ps = tt
 sorted-pairs R back (r ∷ rs) ps =
     insert-pairs R back r (sorted rs) (sorted-each (R r) rs (ps .0)) (sorted-pairs R back rs (ps .1))
-
--- how many elements the ranges have
-unfoldable pub total : List Range → ℕ
-total [] = 0
-total (r ∷ rs) = r .count + total rs
 
 -- ---- sorting sorts
 
@@ -178,22 +163,7 @@ roster-rises head e = spread-rises 0 0 (sorted (ranges head)) (each-zero (sorted
 
 -- ---- how many there are
 
-pub slots-length : (k a p n : ℕ) → length (slots k a p n) ≡ n
-unfolding slots
-slots-length k a p zero = refl
-slots-length k a p (suc n) = ap suc (slots-length k (suc a) (suc p) n)
-
-pub spread-length : (p : ℕ) (rs : List Range) → length (spread p rs) ≡ total rs
-unfolding spread total
-spread-length p [] = refl
-spread-length p (r ∷ rs) =
-    length-append (slots (r .kind) (r .first) p (r .count)) (spread (p + r .count) rs)
-    ∙ rw (slots-length (r .kind) (r .first) p (r .count), spread-length (p + r .count) rs)
-
 -- ---- one range for each type
-
-abbrev pub Differ : Range → Range → Type 0
-Differ r s = r .kind ≢ s .kind
 
 pub kinds-differ : (head : List ℕ) → Pairs Differ (sorted (ranges head))
 unfolding ranges range

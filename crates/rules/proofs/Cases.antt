@@ -1,23 +1,23 @@
 -- The table of cases holds: the checker computes every row, and each row is then an equation. Assumes nothing.
 use Prim.Native.Nat.{ℕ}
 use native.Mathlib.Omega.{arith}
-use mathlib.Core.Path.{_≡_, refl, ap, _∙_}
-use mathlib.Core.List.{List, [], _∷_, _++_, List·Memᴰ}
+use mathlib.Core.Path.{_≡_, refl, ap}
+use mathlib.Core.List.{List, [], _∷_, _++_}
 use mathlib.Core.Bool.{Bool, true, false}
 use lib.Dec.{eqb}
 use borrow.Author.Tests.{eqb-true}
 use Rattle.rules.proofs.Ladder.{all-first, all-rest}
 use Rattle.rules.proofs.Opened.{opened}
 use Rattle.rules.specs.Choice.{when}
-use Rattle.rules.specs.Tables.{Rest, lent, others}
+use Rattle.rules.specs.Tables.{lent, ofRow}
 use Rattle.rules.specs.Order.{Outcome}
 use Rattle.rules.specs.Command.{serve}
 use Rattle.rules.specs.Small.{ends, checks, refuses}
-use Rattle.rules.specs.Cases.{Case, Name, moves, exchanges, whole12, read12, cuts, tagged, labelled, wholeAll, readAll, failedReserve, ownSense, importAfterReset, shipped, twice, laden, locked, numbers, eventNumbers, stepCases, holdCases, eventCases, cases, same, sameRest, sameOutcome, wrong}
+use Rattle.rules.specs.Cases.{Case, Name, moves, exchanges, whole12, read12, cuts, tagged, labelled, wholeAll, readAll, failedReserve, ownSense, importAfterReset, shipped, twice, laden, locked, numbers, eventNumbers, stepCases, holdCases, eventCases, cases, same, sameAll, sameOutcome, wrong}
 
 -- `wrong` with every definition open. The table is computed in parts that are small enough for an error to name the row.
 tested : List Case → List Name
-unfolding opened ends checks refuses moves exchanges whole12 read12 cuts tagged labelled wholeAll readAll failedReserve ownSense importAfterReset shipped twice laden locked numbers eventNumbers stepCases holdCases eventCases cases same sameRest sameOutcome wrong
+unfolding opened ends checks refuses moves exchanges whole12 read12 cuts tagged labelled wholeAll readAll failedReserve ownSense importAfterReset shipped twice laden locked numbers eventNumbers stepCases holdCases eventCases cases same sameAll sameOutcome wrong
 tested cs = wrong cs
 
 moves-computed : tested moves ≡ []
@@ -78,12 +78,15 @@ outcome-is : {o p : Outcome} → o .number ≡ p .number → o .status ≡ p .st
 outcome-is a b c d e f g r h =
     λ i. record { number = a i; status = b i; count = c i; preventers = d i; lowest = e i; tables = lent (f i) (g i) (r i); buffer = h i }
 
-same-rest : (r s : Rest) → sameRest r s ≡ true → r ≡ s
-unfolding sameRest
-same-rest r s e =
-    let tags : r .tags ≡ s .tags = same-true _ _ (all-first _ _ e) in
-    let blank : r .blank ≡ s .blank = same-true _ _ (all-first _ _ (all-rest _ _ e)) in
-    λ i. others (tags i) (blank i)
+same-all : (xs ys : List (List ℕ)) → sameAll xs ys ≡ true → xs ≡ ys
+unfolding sameAll
+same-all [] [] e = refl
+same-all [] (y ∷ ys) e = cc
+same-all (x ∷ xs) [] e = cc
+same-all (x ∷ xs) (y ∷ ys) e =
+    let i = same-true x y (all-first _ _ e) in
+    let j = same-all xs ys (all-first _ _ (all-rest _ _ e)) in
+    cc
 
 same-outcome : (o p : Outcome) → sameOutcome o p ≡ true → o ≡ p
 unfolding sameOutcome
@@ -103,7 +106,7 @@ same-outcome o p e =
     let lowest : o .lowest ≡ p .lowest = eqb-true _ _ (all-first _ _ e₄) in
     let head : o .tables .head ≡ p .tables .head = same-true _ _ (all-first _ _ e₅) in
     let elements : o .tables .elements ≡ p .tables .elements = same-true _ _ (all-first _ _ e₆) in
-    let rest : o .tables .rest ≡ p .tables .rest = same-rest _ _ (all-first _ _ e₇) in
+    let rest : o .tables .rest ≡ p .tables .rest = ap ofRow (same-all _ _ (all-first _ _ e₇)) in
     let buffer : o .buffer ≡ p .buffer = same-true _ _ (all-first _ _ e₈) in
     outcome-is number status count preventers lowest head elements rest buffer
 

@@ -161,35 +161,6 @@ module _ (es : List ℕ) (first n h i : ℕ) where
   unfolding held
   held-alone j d = each-keeps (λ (r : List ℕ). byte r j ≡ byte es j) (heldAt h i) n first es (λ p ys _ _ e. heldAt-else h i p ys j (d p) ∙ e) refl
 
-  held-past : (q : ℕ) → ((p : ℕ) → first ≤ p → p < first + n → q ≢ p) → Holds (length es) q (holder es q) (id es q) (held es first n h i)
-  unfolding held
-  held-past q d =
-      each-keeps (Holds (length es) q (holder es q) (id es q)) (heldAt h i) n first es
-      (λ p ys l m e. holds-past (length es) q (holder es q) (id es q) h i p ys (d p l m) e)
-      (record { long = refl; by = refl; under = refl })
-
-  held-there : (q : ℕ) → first ≤ q → q < first + n → elementAt q + elementSize ≤ length es → Holds (length es) q h i (held es first n h i)
-  unfolding held
-  held-there q l m k =
-      each-at (Holds (length es) q (holder es q) (id es q)) (Holds (length es) q h i) (heldAt h i) n first q es l m
-      (λ p ys d e. holds-past (length es) q (holder es q) (id es q) h i p ys (λ z. d (sym z)) e)
-      (λ ys e. holds-there (length es) q (holder es q) (id es q) h i ys k e)
-      (λ p ys d e. holds-past (length es) q h i h i p ys (λ z. d (sym z)) e)
-      (record { long = refl; by = refl; under = refl })
-
-  -- those named are held; the others as they were
-  pub held-holder : (q : ℕ) → first ≤ q → q < first + n → elementAt q + elementSize ≤ length es → holder (held es first n h i) q ≡ h
-  held-holder q l m k = held-there q l m k .by
-
-  pub held-id : (q : ℕ) → first ≤ q → q < first + n → elementAt q + elementSize ≤ length es → id (held es first n h i) q ≡ i
-  held-id q l m k = held-there q l m k .under
-
-  pub unheld-holder : (q : ℕ) → ((p : ℕ) → first ≤ p → p < first + n → q ≢ p) → holder (held es first n h i) q ≡ holder es q
-  unheld-holder q d = held-past q d .by
-
-  pub unheld-id : (q : ℕ) → ((p : ℕ) → first ≤ p → p < first + n → q ≢ p) → id (held es first n h i) q ≡ id es q
-  unheld-id q d = held-past q d .under
-
 -- ---- whose elements are freed
 
 module _ (w : Whose) where
@@ -239,9 +210,3 @@ module _ (w : Whose) where
         (λ ys e. freedAt-there (length es) q x y ys (omega arith) e)
         (λ p ys d e. freedAt-past (length es) q (left x y x) (left x y y) p ys (λ z. d (sym z)) e)
         (record { long = refl; by = refl; under = refl })
-
-    pub freed-holder : (q : ℕ) → q < places es → holder (freed w es) q ≡ left (holder es q) (id es q) (holder es q)
-    freed-holder q l = freed-there q l .by
-
-    pub freed-id : (q : ℕ) → q < places es → id (freed w es) q ≡ left (holder es q) (id es q) (id es q)
-    freed-id q l = freed-there q l .under

@@ -6,36 +6,32 @@ use mathlib.Core.Path.{_≡_, refl, sym, ap, _∙_}
 use mathlib.Core.Logic.{_≢_}
 use mathlib.Core.Bool.{true, false}
 use mathlib.Core.List.{List, [], _∷_, List·Memᴰ, Memᴰ·cast}
-use lib.ListN.{length}
 use borrow.Author.Tests.{leb-false}
-use Rattle.rules.specs.Bytes.{byte, put, high, low}
-use Rattle.rules.specs.Tables.{Tables, lent, hosts, unitAt, hostAt, attentionAt, elementAt, unit, key, asc, ascq, attention, attentionq, sensed, attended, filled, Change, Sense, Attention, Announce, HoldUnit, Prevent, Fill, Hold, Free, inHead, inElements, change, changes}
+use Rattle.rules.specs.Bytes.{byte}
+use Rattle.rules.specs.Tables.{Tables, lent, hosts, unitAt, elementAt, elementSize, unit, holder, Change, OfHead, OfElements, NewStock, Fill, inHead, inElements, change, changes}
 use Rattle.rules.specs.Roster.{Slot, roster, placeOf, kindOf, transport}
 use Rattle.rules.specs.Sound.{within}
-use Rattle.rules.specs.Order.{Verdict, Number, Prevented, Done, after, fits, good, check, conflict, other, heldByOther, volumeOf, afterAttention, afterUnit, guarded}
-use Rattle.rules.specs.Moves.{ready, noPlace, leave, carry, moveOf, move, exchangeOf, exchange}
+use Rattle.rules.specs.Order.{Verdict, Number, Prevented, Done, after, fits, good, check, conflict, other, heldByOther}
+use Rattle.rules.specs.Moves.{noPlace, leave, carry, moveOf, move, exchangeOf, exchange}
 use Rattle.rules.specs.Sense.{requestSense}
-use Rattle.rules.specs.Command.{Request, steps, judged}
-use Rattle.rules.specs.Histories.{named, mixes, Disjoint}
-use Rattle.rules.proofs.Ladder.{on, any-first, any-rest}
-use Rattle.rules.proofs.Writes.{put-put}
+use Rattle.rules.specs.Operation.{Operation, TestUnitReady, RequestSense, Reserve, Release, PreventAllow, MoveMedium, ExchangeMedium, ReadElementStatus, Unknown, operation}
+use Rattle.rules.specs.Command.{Request, act, steps, judged}
+use Rattle.rules.specs.Histories.{named, namedBy, mixes, joins, Disjoint}
+use Rattle.rules.proofs.Ladder.{on, never}
+use Rattle.rules.proofs.Walks.{Refusals, telling, refused-by, steps-by, move-by, exchange-by}
+use Rattle.rules.proofs.Local.{Local, OfHost, OfStock, leaves, local-comm, local-more, sense-local, attention-local, stock-local}
 use Rattle.rules.proofs.Places.{place-apart, roster-same}
-use Rattle.rules.proofs.HeadFields.{sensed-else, attended-else}
-use Rattle.rules.proofs.ElementFields.{volume-else, filled-holder}
 use Rattle.rules.proofs.Soundness.{within-low}
-use Rattle.rules.proofs.Same.{Same, here, there, mixed, steps-ready, steps-sense, steps-move, steps-exchange, named-move, named-exchange}
+use Rattle.rules.proofs.Same.{Same, here, there}
 
--- ---- what is a command's own: its host's five bytes, the elements of the addresses N
+-- ---- what is a command's own: its host's bytes of the head, and what stands in the elements of the addresses N
+
+abbrev pub OfAddresses : List Slot → List ℕ → ℕ → Type 0
+OfAddresses ss N j = (a : ℕ) × List·Memᴰ a N × (kindOf ss a ≢ 0) × OfStock (placeOf ss a) j
 
 abbrev pub Mine : List Slot → ℕ → List ℕ → Change → Type 0
-Mine ss h N (Sense g k a q) = (g ≡ h) × (1 ≤ h)
-Mine ss h N (Attention g a q) = (g ≡ h) × (1 ≤ h)
-Mine ss h N (Announce a q) = ⊥
-Mine ss h N (HoldUnit g) = ⊥
-Mine ss h N (Prevent m) = ⊥
-Mine ss h N (Fill p v s m) = (a : ℕ) × List·Memᴰ a N × (kindOf ss a ≢ 0) × (p ≡ placeOf ss a)
-Mine ss h N (Hold p n g i) = ⊥
-Mine ss h N (Free w) = ⊥
+Mine ss h N (OfHead c) = (1 ≤ h) × Local (OfHost h) (inHead c)
+Mine ss h N (OfElements c) = Local (OfAddresses ss N) (inElements c)
 
 abbrev pub AllMine : List Slot → ℕ → List ℕ → List Change → Type 0
 AllMine ss h N [] = Unit {0}
@@ -48,83 +44,66 @@ Keeps ss h N (Done status bytes cs) = AllMine ss h N cs
 
 -- ---- a change of another host's leaves what this one reads
 
--- a write in the head behind the unit holder, clear of host h's five bytes
+-- a write in the head behind the unit holder, clear of host h's bytes
 head-same : (h : ℕ) (T N : List ℕ) (t : Tables) (head′ : List ℕ)
     → ((j : ℕ) → j ≤ unitAt → byte head′ j ≡ byte (t .head) j)
-    → ((j : ℕ) → hostAt h ≤ j → j < hostAt (1 + h) → byte head′ j ≡ byte (t .head) j)
+    → ((j : ℕ) → OfHost h j → byte head′ j ≡ byte (t .head) j)
     → Same h T N t (lent head′ (t .elements) (t .rest))
-unfolding unit key asc ascq attention attentionq heldByOther volumeOf
+unfolding unit heldByOther
 head-same h T N t head′ front own =
     let r : roster head′ ≡ roster (t .head) = roster-same (t .head) head′ (λ j l. front j (omega arith)) in
     record {
       roster-is = sym r;
       unit-is = ap (other h) (sym (front unitAt (omega arith)));
-      key-is = sym (own (hostAt h) (omega arith) (omega arith));
-      asc-is = sym (own (1 + hostAt h) (omega arith) (omega arith));
-      ascq-is = sym (own (2 + hostAt h) (omega arith) (omega arith));
-      attention-is = sym (own (attentionAt h) (omega arith) (omega arith));
-      attentionq-is = sym (own (1 + attentionAt h) (omega arith) (omega arith));
+      own-is = λ j i. sym (own j i);
       held-is = λ a m. rw r;
-      volume-is = λ a m. rw r;
+      record-is = λ a m j l. rw r;
     }
 
-fill-same : (h : ℕ) (T N : List ℕ) (t : Tables) (p v s m : ℕ) → ((a : ℕ) → List·Memᴰ a N → placeOf (roster (t .head)) a ≢ p)
-    → Same h T N t (lent (t .head) (filled (t .elements) p v s m) (t .rest))
-unfolding heldByOther volumeOf
-fill-same h T N t p v s m d =
+-- a write of the elements that leaves every holder, and the records of the addresses N
+elements-same : (h : ℕ) (T N : List ℕ) (t : Tables) (es : List ℕ)
+    → ((p : ℕ) → byte es (elementAt p + 4) ≡ byte (t .elements) (elementAt p + 4))
+    → ((a : ℕ) → List·Memᴰ a N → (j : ℕ) → j < elementSize
+    → byte es (elementAt (placeOf (roster (t .head)) a) + j) ≡ byte (t .elements) (elementAt (placeOf (roster (t .head)) a) + j))
+    → Same h T N t (lent (t .head) es (t .rest))
+unfolding heldByOther holder
+elements-same h T N t es holders records =
     record {
       roster-is = refl;
       unit-is = refl;
-      key-is = refl;
-      asc-is = refl;
-      ascq-is = refl;
-      attention-is = refl;
-      attentionq-is = refl;
-      held-is = λ a x. ap (other h) (sym (filled-holder (t .elements) p v s m _));
-      volume-is = λ a x. sym (volume-else (t .elements) p v s m _ (d a x));
+      own-is = λ j i. refl;
+      held-is = λ a x. ap (other h) (sym (holders _));
+      record-is = λ a x j l. sym (records a x j l);
     }
 
 change-same : (ss : List Slot) (h g : ℕ) (T N M : List ℕ) → h ≢ g → Disjoint N M → (c : Change) (t : Tables) → roster (t .head) ≡ ss
     → Mine ss g M c → Same h T N t (change c t)
-unfolding change inHead inElements
-change-same ss h g T N M n d (Sense f k a q) t e m =
-    head-same h T N t _ (λ j l. sensed-else (t .head) f k a q j (λ x y. omega arith)) (λ j l i. sensed-else (t .head) f k a q j (λ x y. omega arith))
-change-same ss h g T N M n d (Attention f a q) t e m =
-    head-same h T N t _ (λ j l. attended-else (t .head) f a q j (λ x y. omega arith)) (λ j l i. attended-else (t .head) f a q j (λ x y. omega arith))
-change-same ss h g T N M n d (Announce a q) t e m = absurd m
-change-same ss h g T N M n d (HoldUnit f) t e m = absurd m
-change-same ss h g T N M n d (Prevent k) t e m = absurd m
-change-same ss h g T N M n d (Fill p v s m) t e (b, y, k, z) =
-    fill-same h T N t p v s m (λ a x w. place-apart ss a b (λ i. d a x (Memᴰ·cast i y)) k (cc))
-change-same ss h g T N M n d (Hold p k f i) t e m = absurd m
-change-same ss h g T N M n d (Free w) t e m = absurd m
+unfolding change
+change-same ss h g T N M n d (OfHead c) t e (o, l) =
+    head-same h T N t _
+    (λ j i. leaves (OfHost g) (inHead c) l j (λ x. omega arith) (t .head))
+    (λ j i. leaves (OfHost g) (inHead c) l j (λ x. omega arith) (t .head))
+change-same ss h g T N M n d (OfElements c) t e l =
+    elements-same h T N t _
+    (λ p. leaves (OfAddresses ss M) (inElements c) l _ (λ (b, y, k, x). omega arith) (t .elements))
+    (λ a m j i. leaves (OfAddresses ss M) (inElements c) l _
+    (λ (b, y, k, x).
+    let w : placeOf ss a ≢ placeOf ss b = place-apart ss a b (λ q. d a m (Memᴰ·cast q y)) k in
+    let r : placeOf (roster (t .head)) a ≡ placeOf ss a = ap (λ (zs : List Slot). placeOf zs a) e in
+    omega arith)
+    (t .elements))
 
 pub same-refl : (h : ℕ) (T N : List ℕ) (t : Tables) → Same h T N t t
-same-refl h T N t =
-    record {
-      roster-is = refl;
-      unit-is = refl;
-      key-is = refl;
-      asc-is = refl;
-      ascq-is = refl;
-      attention-is = refl;
-      attentionq-is = refl;
-      held-is = λ a m. refl;
-      volume-is = λ a m. refl;
-    }
+same-refl h T N t = record { roster-is = refl; unit-is = refl; own-is = λ j i. refl; held-is = λ a m. refl; record-is = λ a m j l. refl }
 
 pub same-trans : {h : ℕ} {T N : List ℕ} {t u w : Tables} → Same h T N t u → Same h T N u w → Same h T N t w
 same-trans a b =
     record {
       roster-is = a .roster-is ∙ b .roster-is;
       unit-is = a .unit-is ∙ b .unit-is;
-      key-is = a .key-is ∙ b .key-is;
-      asc-is = a .asc-is ∙ b .asc-is;
-      ascq-is = a .ascq-is ∙ b .ascq-is;
-      attention-is = a .attention-is ∙ b .attention-is;
-      attentionq-is = a .attentionq-is ∙ b .attentionq-is;
+      own-is = λ j i. a .own-is j i ∙ b .own-is j i;
       held-is = λ x m. a .held-is x m ∙ b .held-is x m;
-      volume-is = λ x m. a .volume-is x m ∙ b .volume-is x m;
+      record-is = λ x m j l. a .record-is x m j l ∙ b .record-is x m j l;
     }
 
 changes-same : (ss : List Slot) (h g : ℕ) (T N M : List ℕ) → h ≢ g → Disjoint N M → (cs : List Change) (t : Tables) → roster (t .head) ≡ ss
@@ -144,78 +123,21 @@ after-same h g T N M n d (Done s bytes cs) t m = changes-same (roster (t .head))
 
 -- ---- two hosts' changes change places
 
--- a change of host h's, as one write within its five bytes of the head (of nothing, if it is none of the head)
-record Written (h : ℕ) (c : Change) : Type 0 where
-  at : ℕ
-  bytes : List ℕ
-  low-end : hostAt h ≤ at
-  high-end : at + length bytes ≤ hostAt (1 + h)
-  is : (head : List ℕ) → inHead c head ≡ put head at bytes
-
-written : (ss : List Slot) (h : ℕ) (N : List ℕ) (c : Change) → Mine ss h N c → Written h c
-unfolding inHead sensed attended put
-written ss h N (Sense g k a q) m =
-    record { at = hostAt g; bytes = k ∷ a ∷ q ∷ []; low-end = omega arith; high-end = omega arith; is = λ head. refl }
-written ss h N (Attention g a q) m =
-    record { at = attentionAt g; bytes = a ∷ q ∷ []; low-end = omega arith; high-end = omega arith; is = λ head. refl }
-written ss h N (Announce a q) m = absurd m
-written ss h N (HoldUnit g) m = absurd m
-written ss h N (Prevent k) m = absurd m
-written ss h N (Fill p v s k) m = record { at = hostAt h; bytes = []; low-end = omega arith; high-end = omega arith; is = λ head. refl }
-written ss h N (Hold p n g i) m = absurd m
-written ss h N (Free w) m = absurd m
-
-head-comm : (ss : List Slot) (h g : ℕ) (N M : List ℕ) → h ≢ g → (c d : Change) → Mine ss h N c → Mine ss g M d
-    → (head : List ℕ) → inHead c (inHead d head) ≡ inHead d (inHead c head)
-head-comm ss h g N M n c d m m′ head =
-    let x = written ss h N c m in
-    let y = written ss g M d m′ in
-    cc (
-      x .is (inHead d head),
-      y .is head,
-      x .is head,
-      y .is (inHead c head),
-      put-put head (x .at) (y .at) (x .bytes) (y .bytes)
-          (λ k l i j. omega (arith, x .low-end, x .high-end, y .low-end, y .high-end)),
-    )
-
-fills-comm : (es : List ℕ) (p v s m p′ v′ s′ m′ : ℕ) → p ≢ p′ → filled (filled es p′ v′ s′ m′) p v s m ≡ filled (filled es p v s m) p′ v′ s′ m′
-unfolding filled
-fills-comm es p v s m p′ v′ s′ m′ o =
-    let x : List ℕ = high v ∷ low v ∷ high s ∷ low s ∷ [] in
-    let y : List ℕ = high v′ ∷ low v′ ∷ high s′ ∷ low s′ ∷ [] in
-    cc (
-      put-put (put es (elementAt p′) y) (elementAt p) (elementAt p′ + 6) x (m′ ∷ []) (λ i j l k. omega arith),
-      put-put es (elementAt p) (elementAt p′) x y (λ i j l k. omega arith),
-      put-put (put (put es (elementAt p) x) (elementAt p′) y) (elementAt p + 6) (elementAt p′ + 6) (m ∷ []) (m′ ∷ []) (λ i j l k. omega arith),
-      put-put (put es (elementAt p) x) (elementAt p + 6) (elementAt p′) (m ∷ []) y (λ i j l k. omega arith),
-    )
-
-elements-comm : (ss : List Slot) (h g : ℕ) (N M : List ℕ) → Disjoint N M → (c d : Change) → Mine ss h N c → Mine ss g M d
-    → (es : List ℕ) → inElements c (inElements d es) ≡ inElements d (inElements c es)
-unfolding inElements
-elements-comm ss h g N M a (Sense f k x q) d m m′ es = refl
-elements-comm ss h g N M a (Attention f x q) d m m′ es = refl
-elements-comm ss h g N M a (Announce x q) d m m′ es = refl
-elements-comm ss h g N M a (HoldUnit f) d m m′ es = refl
-elements-comm ss h g N M a (Prevent k) d m m′ es = refl
-elements-comm ss h g N M a (Hold p n f i) d m m′ es = absurd m
-elements-comm ss h g N M a (Free w) d m m′ es = absurd m
-elements-comm ss h g N M a (Fill p v s k) (Sense f x y z) m m′ es = refl
-elements-comm ss h g N M a (Fill p v s k) (Attention f x y) m m′ es = refl
-elements-comm ss h g N M a (Fill p v s k) (Announce x y) m m′ es = refl
-elements-comm ss h g N M a (Fill p v s k) (HoldUnit f) m m′ es = refl
-elements-comm ss h g N M a (Fill p v s k) (Prevent x) m m′ es = refl
-elements-comm ss h g N M a (Fill p v s k) (Hold q n f i) m m′ es = absurd m′
-elements-comm ss h g N M a (Fill p v s k) (Free w) m m′ es = absurd m′
-elements-comm ss h g N M a (Fill p v s k) (Fill p′ v′ s′ k′) (b, y, i, z) (b′, y′, i′, z′) es =
-    let w : placeOf ss b ≢ placeOf ss b′ = place-apart ss b b′ (λ j. a b y (Memᴰ·cast j y′)) i′ in
-    fills-comm es p v s k p′ v′ s′ k′ (λ (j : p ≡ p′). w (cc))
-
 change-comm : (ss : List Slot) (h g : ℕ) (N M : List ℕ) → h ≢ g → Disjoint N M → (c d : Change)
     → Mine ss h N c → Mine ss g M d → (t : Tables) → change c (change d t) ≡ change d (change c t)
 unfolding change
-change-comm ss h g N M n a c d m m′ t = cc (head-comm ss h g N M n c d m m′ (t .head), elements-comm ss h g N M a c d m m′ (t .elements))
+change-comm ss h g N M n a (OfHead c) (OfHead d) (o, l) (o′, m) t =
+    ap (λ (head : List ℕ). lent head (t .elements) (t .rest))
+    (local-comm (OfHost h) (OfHost g) (λ j x y. omega arith) (inHead c) (inHead d) l m (t .head))
+change-comm ss h g N M n a (OfHead c) (OfElements d) l m t = refl
+change-comm ss h g N M n a (OfElements c) (OfHead d) l m t = refl
+change-comm ss h g N M n a (OfElements c) (OfElements d) l m t =
+    ap (λ (es : List ℕ). lent (t .head) es (t .rest))
+    (local-comm (OfAddresses ss N) (OfAddresses ss M)
+    (λ j (b, y, k, x) (b′, y′, k′, x′).
+    let w : placeOf ss b ≢ placeOf ss b′ = place-apart ss b b′ (λ q. a b y (Memᴰ·cast q y′)) k′ in
+    omega arith)
+    (inElements c) (inElements d) l m (t .elements))
 
 changes-past : (ss : List Slot) (h g : ℕ) (N M : List ℕ) → h ≢ g → Disjoint N M → (c : Change) (ds : List Change)
     → Mine ss h N c → AllMine ss g M ds → (t : Tables) → change c (changes ds t) ≡ changes ds (change c t)
@@ -246,68 +168,52 @@ module _ (t : Tables) (h : ℕ) (N : List ℕ) (o : 1 ≤ h) where
   Kept : Verdict → Type 0
   Kept v = Keeps (roster (t .head)) h N v
 
-  kept-check : (k a q : ℕ) → Kept (check h k a q)
-  unfolding Kept check
-  kept-check k a q = ((refl, o), tt)
-
-  kept-conflict : Kept (conflict h)
-  unfolding Kept conflict
-  kept-conflict = ((refl, o), tt)
+  kept-refusals : Refusals Kept t h
+  unfolding Kept check conflict telling
+  kept-refusals =
+      record {
+        refuses = refused-by Kept h (λ a q. ((o, sense-local h 5 a q), tt));
+        conflicts = ((o, sense-local h 0 0 0), tt);
+        tells = ((o, sense-local h 6 _ _), ((o, attention-local h 0 0), tt));
+      }
 
   kept-good : (cs : List Change) → AllMine (roster (t .head)) h N cs → Kept (good h cs)
   unfolding Kept good
-  kept-good cs m = ((refl, o), m)
-
-  kept-guarded : (v : Verdict) → Kept v → Kept (guarded t h v)
-  unfolding guarded afterAttention afterUnit Kept
-  kept-guarded v m = on Kept _ (λ _. on Kept _ (λ _. kept-conflict) (λ _. m)) (λ _. ((refl, o), ((refl, o), tt)))
-
-  kept-ready : (block : List ℕ) → Kept (ready h block)
-  unfolding ready
-  kept-ready block = on Kept _ (λ _. kept-check _ _ _) (λ _. kept-good [] tt)
+  kept-good cs m = ((o, sense-local h 0 0 0), m)
 
   kept-sense : (block : List ℕ) → Kept (requestSense t h block)
   unfolding requestSense Kept
-  kept-sense block = on Kept _ (λ _. kept-check _ _ _) (λ _. on Kept _ (λ _. ((refl, o), tt)) (λ _. ((refl, o), tt)))
+  kept-sense block = on Kept _ (λ _. ((o, attention-local h 0 0), tt)) (λ _. ((o, sense-local h 0 0 0), tt))
 
   -- an element at an address that stands may be filled
+  stands-mine : (a v s m : ℕ) → List·Memᴰ a N → noPlace t a ≡ false → Mine (roster (t .head)) h N (Fill (placeOf (roster (t .head)) a) v s m)
+  unfolding noPlace
+  stands-mine a v s m i e =
+      let k : kindOf (roster (t .head)) a ≢ 0 = omega (arith, leb-false (kindOf (roster (t .head)) a) transport e) in
+      local-more (OfStock (placeOf (roster (t .head)) a)) (OfAddresses (roster (t .head)) N) (inElements (NewStock _ v s m)) (λ j x. (a, i, k, x))
+      (stock-local (placeOf (roster (t .head)) a) v s m)
+
   leave-mine : (a : ℕ) → List·Memᴰ a N → noPlace t a ≡ false → Mine (roster (t .head)) h N (leave t a)
-  unfolding noPlace leave
-  leave-mine a m e = (a, m, omega (arith, leb-false (kindOf (roster (t .head)) a) transport e), refl)
+  unfolding leave
+  leave-mine a m e = stands-mine a 0 0 0 m e
 
   carry-mine : (a b : ℕ) → List·Memᴰ b N → noPlace t b ≡ false → Mine (roster (t .head)) h N (carry t a b)
-  unfolding noPlace carry
-  carry-mine a b m e = (b, m, omega (arith, leb-false (kindOf (roster (t .head)) b) transport e), refl)
+  unfolding carry
+  carry-mine a b m e = stands-mine b _ _ 0 m e
 
-  kept-move : (block : List ℕ) (arm from to : ℕ) → List·Memᴰ from N → List·Memᴰ to N → Kept (moveOf t h block arm from to)
-  unfolding moveOf
-  kept-move block arm from to m₁ m₂ =
-      on Kept _ (λ _. kept-check _ _ _)
-      λ _. on Kept _ (λ _. kept-check _ _ _)
-      λ e. on Kept _ (λ _. kept-conflict)
-      λ _. on Kept _ (λ _. kept-check _ _ _)
-      λ _. on Kept _ (λ _. kept-check _ _ _)
-      λ _.
-      let e₁ = any-rest _ _ e in
-      kept-good _ (leave-mine from m₁ (any-first _ _ e₁), (carry-mine from to m₂ (any-first _ _ (any-rest _ _ e₁)), tt))
+  kept-move : (arm from to : ℕ) → List·Memᴰ from N → List·Memᴰ to N → Kept (moveOf t h arm from to)
+  kept-move arm from to m₁ m₂ =
+      move-by Kept t h kept-refusals arm from to
+      (λ x. kept-good _ (leave-mine from m₁ (x .from-stands), (carry-mine from to m₂ (x .to-stands), tt)))
 
-  kept-exchange : (block : List ℕ) (arm from first second : ℕ) → List·Memᴰ from N → List·Memᴰ first N → List·Memᴰ second N
-      → Kept (exchangeOf t h block arm from first second)
-  unfolding exchangeOf
-  kept-exchange block arm from first second m₁ m₂ m₃ =
-      on Kept _ (λ _. kept-check _ _ _)
-      λ _. on Kept _ (λ _. kept-check _ _ _)
-      λ e. on Kept _ (λ _. kept-conflict)
-      λ _. on Kept _ (λ _. kept-check _ _ _)
-      λ _. on Kept _ (λ _. kept-check _ _ _)
-      λ _.
-      let e₁ = any-rest _ _ e in
-      let e₂ = any-rest _ _ e₁ in
-      let e₃ = any-rest _ _ e₂ in
-      kept-good _ (
-        leave-mine from m₁ (any-first _ _ e₁),
-        (leave-mine first m₂ (any-first _ _ e₂), (carry-mine first second m₃ (any-first _ _ e₃), (carry-mine from first m₂ (any-first _ _ e₂), tt))),
-      )
+  kept-exchange : (arm from first second : ℕ) → List·Memᴰ from N → List·Memᴰ first N → List·Memᴰ second N
+      → Kept (exchangeOf t h arm from first second)
+  kept-exchange arm from first second m₁ m₂ m₃ =
+      exchange-by Kept t h kept-refusals arm from first second
+      (λ x. kept-good _ (
+        leave-mine from m₁ (x .from-stands),
+        (leave-mine first m₂ (x .first-stands), (carry-mine first second m₃ (x .second-stands), (carry-mine from first m₂ (x .first-stands), tt))),
+      ))
 
   kept-fits : (buffer : List ℕ) (v : Verdict) → Kept v → Kept (fits buffer v)
   unfolding fits Kept
@@ -315,19 +221,24 @@ module _ (t : Tables) (h : ℕ) (N : List ℕ) (o : 1 ≤ h) where
   kept-fits buffer (Prevented n g) m = tt
   kept-fits buffer (Done s bytes cs) m = on Kept _ (λ _. m) (λ _. tt)
 
+act-kept : (op : Operation) (t : Tables) (h : ℕ) (block list : List ℕ) → 1 ≤ h → joins op ≡ true
+    → Keeps (roster (t .head)) h (namedBy op block) (act op t h block list)
+unfolding Kept act joins namedBy move exchange
+act-kept TestUnitReady t h block list o m = kept-good t h [] o [] tt
+act-kept RequestSense t h block list o m = kept-sense t h [] o block
+act-kept Reserve t h block list o m = absurd (never m)
+act-kept Release t h block list o m = absurd (never m)
+act-kept PreventAllow t h block list o m = absurd (never m)
+act-kept MoveMedium t h block list o m = kept-move t h _ o _ _ _ (here _ _) (there (here _ _))
+act-kept ExchangeMedium t h block list o m = kept-exchange t h _ o _ _ _ _ (here _ _) (there (here _ _)) (there (there (here _ _)))
+act-kept ReadElementStatus t h block list o m = absurd (never m)
+act-kept Unknown t h block list o m = absurd (never m)
+
 steps-kept : (t : Tables) (h : ℕ) (block list : List ℕ) → 1 ≤ h → mixes block ≡ true → Keeps (roster (t .head)) h (named block) (steps t h block list)
-unfolding Kept move exchange
+unfolding Kept steps mixes named
 steps-kept t h block list o m =
-    let N : List ℕ = named block in
-    mixed block m
-    (λ e. rw (steps-ready t h block list e) (kept-guarded t h N o _ (kept-ready t h N o block)))
-    (λ e. rw (steps-sense t h block list e) (kept-sense t h N o block))
-    (λ e. rw (steps-move t h block list e)
-    (kept-guarded t h N o _ (kept-move t h N o block _ _ _ (rw (named-move block e) (here _ _)) (rw (named-move block e) (there (here _ _))))))
-    (λ e. rw (steps-exchange t h block list e)
-    (kept-guarded t h N o _
-    (kept-exchange t h N o block _ _ _ _ (rw (named-exchange block e) (here _ _)) (rw (named-exchange block e) (there (here _ _)))
-    (rw (named-exchange block e) (there (there (here _ _)))))))
+    steps-by (Kept t h (named block) o) t h (kept-refusals t h (named block) o) (operation block) block list
+    (λ _. act-kept (operation block) t h block list o m)
 
 pub judged-kept : (t : Tables) (r : Request) → mixes (r .block) ≡ true → Keeps (roster (t .head)) (r .host) (named (r .block)) (judged t r)
 unfolding judged Kept

@@ -3,14 +3,12 @@ use Prim.Native.Nat.{ℕ, _+_, _<_, _≤_}
 use native.Mathlib.Omega.{arith}
 use mathlib.Core.Path.{_≡_, refl, _∙_}
 use mathlib.Core.Logic.{_≢_}
-use mathlib.Core.Bool.{Bool, true, false}
 use mathlib.Core.List.{List, [], _∷_}
 use lib.ListN.{length}
 use lib.Dec.{eqb}
-use Rattle.rules.specs.Choice.{when}
 use Rattle.rules.specs.Bytes.{byte}
-use Rattle.rules.specs.Tables.{hosts, unitAt, maskAt, hostAt, attentionAt, unit, mask, key, asc, ascq, attention, attentionq, sensed, attended, announcedTo, announced, unitHeld, masked}
-use Rattle.rules.proofs.Ladder.{on, each-keeps, each-at}
+use Rattle.rules.specs.Tables.{hosts, unitAt, maskAt, hostAt, attentionAt, unit, key, asc, ascq, attention, attentionq, sensed, attended, announcedTo, announced, unitHeld, masked}
+use Rattle.rules.proofs.Ladder.{on, each-keeps}
 use Rattle.rules.proofs.Writes.{put-length, byte-put, byte-put-same}
 
 -- byte j is none of the n bytes from i on
@@ -82,80 +80,21 @@ module _ (head : List ℕ) (n : ℕ) where
   unfolding masked
   masked-else j d = byte-put head maskAt j (n ∷ []) (λ m l. omega arith)
 
-  pub masked-mask : maskAt < length head → mask (masked head n) ≡ n
-  unfolding masked mask
-  masked-mask l = byte-put-same head maskAt maskAt 0 (n ∷ []) (omega arith) (omega arith) (omega arith)
-
 -- ---- attention for each host with none
 
 -- of a head n bytes long: host h's attention
 record Attends (n h x y : ℕ) (head : List ℕ) : Type 0 where
   long : length head ≡ n
   code : attention head h ≡ x
-  codeq : attentionq head h ≡ y
 
 module _ (a q : ℕ) where
-  announcedTo-length : (h : ℕ) (head : List ℕ) → length (announcedTo a q h head) ≡ length head
-  unfolding announcedTo
-  announcedTo-length h head = on (λ (r : List ℕ). length r ≡ length head) (eqb (attention head h) 0) (λ _. attended-length head h a q) (λ _. refl)
-
   announcedTo-else : (h : ℕ) (head : List ℕ) (j : ℕ) → Off (attentionAt h) 2 j → byte (announcedTo a q h head) j ≡ byte head j
   unfolding announcedTo
   announcedTo-else h head j d =
       on (λ (r : List ℕ). byte r j ≡ byte head j) (eqb (attention head h) 0) (λ _. attended-else head h a q j d) (λ _. refl)
-
-  pub announced-length : (head : List ℕ) → length (announced head a q) ≡ length head
-  unfolding announced
-  announced-length head =
-      each-keeps (λ (r : List ℕ). length r ≡ length head) (announcedTo a q) hosts 1 head (λ h ys _ _ e. announcedTo-length h ys ∙ e) refl
 
   pub announced-else : (head : List ℕ) (j : ℕ) → ((h : ℕ) → 1 ≤ h → h ≤ hosts → Off (attentionAt h) 2 j) → byte (announced head a q) j ≡ byte head j
   unfolding announced
   announced-else head j d =
       each-keeps (λ (r : List ℕ). byte r j ≡ byte head j) (announcedTo a q) hosts 1 head
       (λ h ys l m e. announcedTo-else h ys j (d h l (omega arith)) ∙ e) refl
-
-  attends-past : (n h x y g : ℕ) (head : List ℕ) → g ≢ h → Attends n h x y head → Attends n h x y (announcedTo a q g head)
-  unfolding attention attentionq
-  attends-past n h x y g head d e =
-      record {
-        long = announcedTo-length g head ∙ e .long;
-        code = announcedTo-else g head (attentionAt h) (λ m l. omega arith) ∙ e .code;
-        codeq = announcedTo-else g head (1 + attentionAt h) (λ m l. omega arith) ∙ e .codeq;
-      }
-
-  attends-there : (n h x y : ℕ) (head : List ℕ) → attentionAt h + 2 ≤ n → Attends n h x y head
-      → Attends n h (when (eqb x 0) a x) (when (eqb x 0) q y) (announcedTo a q h head)
-  unfolding announcedTo when
-  attends-there n h x y head l e = rw (e .code) (go (eqb x 0))
-    where
-      go : (b : Bool) → Attends n h (when b a x) (when b q y) (when b (attended head h a q) head)
-      go true =
-          record {
-            long = attended-length head h a q ∙ e .long;
-            code = attended-attention head h a q (omega (arith, e .long));
-            codeq = attended-attentionq head h a q (omega (arith, e .long));
-          }
-      go false = e
-
-  announced-attends : (head : List ℕ) (h : ℕ) → 1 ≤ h → h ≤ hosts → attentionAt h + 2 ≤ length head
-      → Attends (length head) h (when (eqb (attention head h) 0) a (attention head h)) (when (eqb (attention head h) 0) q (attentionq head h)) (announced head a q)
-  unfolding announced
-  announced-attends head h l m n =
-      let x = attention head h in
-      let y = attentionq head h in
-      let P : List ℕ → Type 0 = Attends (length head) h x y in
-      let Q : List ℕ → Type 0 = Attends (length head) h (when (eqb x 0) a x) (when (eqb x 0) q y) in
-      each-at P Q (announcedTo a q) hosts 1 h head l (omega arith)
-      (λ g ys d e. attends-past (length head) h x y g ys d e)
-      (λ ys e. attends-there (length head) h x y ys n e)
-      (λ g ys d e. attends-past (length head) h (when (eqb x 0) a x) (when (eqb x 0) q y) g ys d e)
-      (record { long = refl; code = refl; codeq = refl })
-
-  pub announced-attention : (head : List ℕ) (h : ℕ) → 1 ≤ h → h ≤ hosts → attentionAt h + 2 ≤ length head
-      → attention (announced head a q) h ≡ when (eqb (attention head h) 0) a (attention head h)
-  announced-attention head h l m n = announced-attends head h l m n .code
-
-  pub announced-attentionq : (head : List ℕ) (h : ℕ) → 1 ≤ h → h ≤ hosts → attentionAt h + 2 ≤ length head
-      → attentionq (announced head a q) h ≡ when (eqb (attention head h) 0) q (attentionq head h)
-  announced-attentionq head h l m n = announced-attends head h l m n .codeq

@@ -11,13 +11,14 @@ use lib.Seq.{take-append-add, take-append-le, length-take-le, take-take}
 use lib.Dec.{leb, ltb, T}
 use borrow.Author.Tests.{leb-true, ltb-true, ltb-false, le-leb, lt-ltb, le-ltb}
 use Rattle.rules.specs.Choice.{when, anyOf}
-use Rattle.rules.specs.Bytes.{byte, word, triple, three}
+use Rattle.rules.specs.Bytes.{byte, word, triple, three, cut}
 use Rattle.rules.specs.Tables.{Tables}
 use Rattle.rules.specs.Roster.{Slot, Range, range, ranges, slots, spread, insert, sorted, roster}
+use Rattle.rules.specs.Ranges.{Each}
 use Rattle.rules.specs.Sound.{sound}
 use Rattle.rules.specs.Listing.{typeCode, keep, ofType, atOrAbove, chosen, chosenBy, descriptor, pageHeader, page, pages, pagesOf, joined, firstAddress, header, headerOf, fitting, returned, listing}
 use Rattle.rules.proofs.Ladder.{on, when-true, when-false}
-use Rattle.rules.proofs.Ascending.{Each, each-map, sorted-each, Rising, rising-lower, roster-rises, ranges-sound}
+use Rattle.rules.proofs.Ascending.{each-map, sorted-each, Rising, rising-lower, roster-rises, ranges-sound}
 
 -- the whole answer: the header and all pages
 unfoldable pub whole : Bool → Tables → List Slot → List ℕ
@@ -72,7 +73,7 @@ pub record Tells (bytes : List ℕ) (ss : List Slot) (pageBytes : ℕ) : Type 0 
 
 returned-tells : (allocation : ℕ) (ss : List Slot) (ps : List (List ℕ)) → 8 ≤ allocation
     → Tells (returned allocation (headerOf ss ps) ps) ss (length (joined ps))
-unfolding returned headerOf header three word triple byte
+unfolding returned cut headerOf header three word triple byte
 returned-tells allocation ss ps h =
     rw (when-false (ltb allocation 8) (take allocation (headerOf ss ps)) (headerOf ss ps ++ fitting (allocation - 8) ps) (le-ltb allocation 8 h))
     (record { first = omega arith; number = omega arith; count = omega arith })
@@ -81,7 +82,7 @@ returned-tells allocation ss ps h =
 
 returned-begins : (allocation : ℕ) (ss : List Slot) (ps : List (List ℕ))
     → Begins (returned allocation (headerOf ss ps) ps) (headerOf ss ps ++ joined ps)
-unfolding returned
+unfolding returned cut
 returned-begins allocation ss ps =
     on (λ (x : List ℕ). Begins x (headerOf ss ps ++ joined ps)) (ltb allocation 8)
     (λ e.
@@ -92,7 +93,7 @@ returned-begins allocation ss ps =
 
 returned-grows : (allocation more : ℕ) (ss : List Slot) (ps : List (List ℕ)) → allocation ≤ more
     → Begins (returned allocation (headerOf ss ps) ps) (returned more (headerOf ss ps) ps)
-unfolding returned
+unfolding returned cut
 returned-grows allocation more ss ps h =
     on (Begins _) (ltb more 8) (λ e. let l = ltb-true more 8 e in rw (short (omega arith)) (below-both l))
     (λ e. let l = ltb-false more 8 e in on (λ (x : List ℕ). Begins x (head ++ fitting (more - 8) ps)) (ltb allocation 8)
@@ -116,7 +117,7 @@ returned-grows allocation more ss ps h =
 
 returned-all : (allocation : ℕ) (ss : List Slot) (ps : List (List ℕ)) → length (headerOf ss ps ++ joined ps) ≤ allocation
     → returned allocation (headerOf ss ps) ps ≡ headerOf ss ps ++ joined ps
-unfolding returned
+unfolding returned cut
 returned-all allocation ss ps h =
     let n = length-append (headerOf ss ps) (joined ps) in
     let k = header-length ss ps in
@@ -200,7 +201,7 @@ module _ (tagged : Bool) (t : Tables) (ss : List Slot) where
   -- from 8 on, it is the header alone, or it ends with a descriptor
   pub listing-ends : (allocation : ℕ) → 8 ≤ allocation
       → (listing tagged t allocation ss ≡ headerOf ss (pagesOf tagged t ss)) ⊎ Ends tagged t (listing tagged t allocation ss)
-  unfolding listing returned
+  unfolding listing returned cut
   listing-ends allocation h =
       rw (when-false (ltb allocation 8) (take allocation head) (head ++ fitting (allocation - 8) ps) (le-ltb allocation 8 h))
       (join (fitting (allocation - 8) ps) (fitting-ends tagged t (allocation - 8) ps (pages-of-end tagged t ss)))

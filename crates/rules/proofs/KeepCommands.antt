@@ -9,17 +9,19 @@ use lib.ListN.{length}
 use lib.Dec.{eqb}
 use borrow.Author.Tests.{eqb-false, leb-false}
 use Rattle.rules.specs.Choice.{when, anyFrom}
-use Rattle.rules.specs.Bytes.{byte}
+use Rattle.rules.specs.Bytes.{byte, word}
 use Rattle.rules.specs.Tables.{Tables, lent, hosts, unitAt, places, volumes, unit, attention, attentionq, volume, holder, sensed, Change, Sense, Attention, HoldUnit, Prevent, Hold, Free, Under, Every, inHead, inElements, change, changes}
 use Rattle.rules.specs.Roster.{Slot, roster, placeOf}
 use Rattle.rules.specs.Sound.{within}
-use Rattle.rules.specs.Order.{Verdict, Number, Prevented, Done, fits, good, check, conflict, other, volumeOf, afterAttention, afterUnit, guarded}
-use Rattle.rules.specs.Moves.{ready, noPlace, leave, carry, moveOf, move, exchangeOf, exchange}
-use Rattle.rules.specs.Holds.{faultsFrom, holdsFrom, granted, reserveUnit, reserveElements, reserve, releaseUnit, release, prevent, descriptors}
+use Rattle.rules.specs.Operation.{Operation, TestUnitReady, RequestSense, Reserve, Release, PreventAllow, MoveMedium, ExchangeMedium, ReadElementStatus, Unknown, operation}
+use Rattle.rules.specs.Order.{Verdict, Number, Prevented, Done, InvalidOperation, fits, good, check, conflict, other, volumeOf}
+use Rattle.rules.specs.Moves.{noPlace, leave, carry, move, exchange}
+use Rattle.rules.specs.Holds.{holdsFrom, granted, releaseUnit, release, prevent, descriptors}
 use Rattle.rules.specs.Sense.{requestSense}
 use Rattle.rules.specs.Listing.{readStatus}
-use Rattle.rules.specs.Command.{Request, steps, judged}
-use Rattle.rules.proofs.Ladder.{on, either, any-first, any-rest, any-nowhere, all-cons, all-nil, ne-differ}
+use Rattle.rules.specs.Command.{Request, act, steps, judged}
+use Rattle.rules.proofs.Ladder.{on, either, any-nowhere, all-cons, all-nil, ne-differ}
+use Rattle.rules.proofs.Walks.{Refusals, Passed, Moving, Exchanging, telling, refused-by, steps-by, move-by, exchange-by, reserve-by, release-by}
 use Rattle.rules.proofs.Places.{roster-same}
 use Rattle.rules.proofs.HeadFields.{sensed-else}
 use Rattle.rules.proofs.Soundness.{SenseFits, HoldFits, ElementsFit, Sound, places-is, within-low, within-high}
@@ -48,48 +50,37 @@ module _ (t : Tables) (s : Sound t) (h : ℕ) (l : 1 ≤ h) (m : h ≤ hosts) wh
   unfolding check changes
   check-sound k a q x y = change-sound (Sense h k a q) t (l, m, some-sense k a q x y) s
 
-  -- the key of every refusal but attention's
-  five : (a q : ℕ) → Sounds t (check h 5 a q)
-  five a q = check-sound 5 a q (omega arith) (omega arith)
-
   cleared : Sound (change (Sense h 0 0 0) t)
   cleared = change-sound (Sense h 0 0 0) t (l, m, no-sense) s
 
-  conflict-sound : Sounds t (conflict h)
-  unfolding conflict changes
-  conflict-sound = cleared
-
-  afterAttention-sound : (v : Verdict) → Sounds t v → Sounds t (afterAttention t h v)
-  unfolding afterAttention changes
-  afterAttention-sound v x =
-      on (Sounds t) (eqb (attention (t .head) h) 0) (λ _. x)
-      (λ _.
-      change-sound (Attention h 0 0) _ (l, m, omega arith)
-      (change-sound (Sense h 6 (attention (t .head) h) (attentionq (t .head) h)) t (l, m, some-sense 6 _ _ (omega arith) (omega arith)) s))
-
-  guarded-sound : (v : Verdict) → (other h (unit (t .head)) ≡ false → Sounds t v) → Sounds t (guarded t h v)
-  unfolding guarded afterUnit
-  guarded-sound v x = afterAttention-sound _ (on (Sounds t) (other h (unit (t .head))) (λ _. conflict-sound) x)
+  refusals-sound : Refusals (Sounds t) t h
+  unfolding conflict telling changes
+  refusals-sound =
+      record {
+        refuses = refused-by (Sounds t) h (λ a q. check-sound 5 a q (omega arith) (omega arith));
+        conflicts = cleared;
+        tells =
+            change-sound (Attention h 0 0) _ (l, m, omega arith)
+            (change-sound (Sense h 6 (attention (t .head) h) (attentionq (t .head) h)) t (l, m, some-sense 6 _ _ (omega arith) (omega arith)) s);
+      }
 
   -- ---- TEST UNIT READY, REQUEST SENSE, READ ELEMENT STATUS, PREVENT ALLOW
 
-  ready-sound : (block : List ℕ) → Sounds t (ready h block)
-  unfolding ready good changes
-  ready-sound block = on (Sounds t) _ (λ _. five 0x24 0x00) (λ _. cleared)
+  ready-sound : Sounds t (good h [])
+  unfolding good changes
+  ready-sound = cleared
 
   requestSense-sound : (block : List ℕ) → Sounds t (requestSense t h block)
   unfolding requestSense changes
-  requestSense-sound block =
-      on (Sounds t) _ (λ _. five 0x24 0x00)
-      (λ _. on (Sounds t) _ (λ _. change-sound (Attention h 0 0) t (l, m, omega arith) s) (λ _. cleared))
+  requestSense-sound block = on (Sounds t) _ (λ _. change-sound (Attention h 0 0) t (l, m, omega arith) s) (λ _. cleared)
 
   readStatus-sound : (block : List ℕ) → Sounds t (readStatus t h block)
   unfolding readStatus changes
-  readStatus-sound block = on (Sounds t) _ (λ _. five 0x24 0x00) (λ _. cleared)
+  readStatus-sound block = cleared
 
   prevent-sound : (block : List ℕ) → Sounds t (prevent t h block)
   unfolding prevent good changes
-  prevent-sound block = on (Sounds t) _ (λ _. five 0x24 0x00) (λ _. change-sound (Prevent _) _ tt cleared)
+  prevent-sound block = change-sound (Prevent _) _ tt cleared
 
   -- ---- MOVE and EXCHANGE: the elements change, and the host's sense is cleared
 
@@ -106,51 +97,42 @@ module _ (t : Tables) (s : Sound t) (h : ℕ) (l : 1 ≤ h) (m : h ≤ hosts) wh
   unfolding volumeOf
   full a e = eqb-false _ _ e
 
-  moveOf-sound : (block : List ℕ) (arm from to : ℕ) → Sounds t (moveOf t h block arm from to)
-  unfolding moveOf
-  moveOf-sound block arm from to =
-      on (Sounds t) _ (λ _. five 0x24 0x00)
-      λ _. on (Sounds t) _ (λ _. five 0x21 0x01)
-      λ e. on (Sounds t) _ (λ _. conflict-sound)
-      λ _. on (Sounds t) _ (λ _. five 0x3B 0x0E)
-      λ z. on (Sounds t) _ (λ _. five 0x3B 0x0D)
-      λ _.
-      let e₁ = any-rest _ _ e in
-      moved (stands from (any-first _ _ e₁)) (stands to (any-first _ _ (any-rest _ _ e₁))) (full from z)
+  move-sound : (block : List ℕ) → Sounds t (move t h block)
+  unfolding move
+  move-sound block = move-by (Sounds t) t h refusals-sound _ _ _ moved
     where
-      moved : Stands (roster (t .head)) from → Stands (roster (t .head)) to → volume (t .elements) (placeOf (roster (t .head)) from) ≢ 0
-          → Sounds t (good h (leave t from ∷ carry t from to ∷ []))
-      moved x y z =
-          unfold good leave carry volumeOf changes change inHead inElements in stood _ (moved-fits _ _ _ (t .elements) from to (s .elements-fit) x y z)
+      from : ℕ
+      from = word block 4
 
-  exchangeOf-sound : (block : List ℕ) (arm from first second : ℕ) → Sounds t (exchangeOf t h block arm from first second)
-  unfolding exchangeOf
-  exchangeOf-sound block arm from first second =
-      on (Sounds t) _ (λ _. five 0x24 0x00)
-      λ _. on (Sounds t) _ (λ _. five 0x21 0x01)
-      λ e. on (Sounds t) _ (λ _. conflict-sound)
-      λ _. on (Sounds t) _ (λ _. five 0x3B 0x0E)
-      λ z. on (Sounds t) _ (λ _. five 0x3B 0x0D)
-      λ _.
-      let e₁ = any-rest _ _ e in
-      let e₂ = any-rest _ _ e₁ in
-      let e₃ = any-rest _ _ e₂ in
-      exchanged (stands from (any-first _ _ e₁)) (stands first (any-first _ _ e₂)) (stands second (any-first _ _ e₃))
-      (full from (any-first _ _ z)) (full first (any-first _ _ (any-rest _ _ z))) (eqb-false _ _ (any-first _ _ (any-rest _ _ e₃)))
+      to : ℕ
+      to = word block 6
+
+      moved : Moving t from to → Sounds t (good h (leave t from ∷ carry t from to ∷ []))
+      moved x =
+          unfold good leave carry volumeOf changes change inHead inElements in
+          stood _ (moved-fits _ _ _ (t .elements) from to (s .elements-fit) (stands from (x .from-stands)) (stands to (x .to-stands)) (full from (x .from-full)))
+
+  exchange-sound : (block : List ℕ) → Sounds t (exchange t h block)
+  unfolding exchange
+  exchange-sound block = exchange-by (Sounds t) t h refusals-sound _ _ _ _ exchanged
     where
-      exchanged : Stands (roster (t .head)) from → Stands (roster (t .head)) first → Stands (roster (t .head)) second
-          → volume (t .elements) (placeOf (roster (t .head)) from) ≢ 0 → volume (t .elements) (placeOf (roster (t .head)) first) ≢ 0 → first ≢ from
-          → Sounds t (good h (leave t from ∷ leave t first ∷ carry t first second ∷ carry t from first ∷ []))
-      exchanged x y k z w d =
-          unfold good leave carry volumeOf changes change inHead inElements in stood _ (exchanged-fits _ _ _ (t .elements) from first second (s .elements-fit) x y k z w d)
+      from : ℕ
+      from = word block 4
+
+      first : ℕ
+      first = word block 6
+
+      second : ℕ
+      second = word block 8
+
+      exchanged : Exchanging t from first second → Sounds t (good h (leave t from ∷ leave t first ∷ carry t first second ∷ carry t from first ∷ []))
+      exchanged x =
+          unfold good leave carry volumeOf changes change inHead inElements in
+          stood _
+          (exchanged-fits _ _ _ (t .elements) from first second (s .elements-fit) (stands from (x .from-stands)) (stands first (x .first-stands))
+          (stands second (x .second-stands)) (full from (x .from-full)) (full first (x .first-full)) (eqb-false _ _ (x .apart)))
 
   -- ---- RESERVE and RELEASE
-
-  faults-sound : (ss : List Slot) (list : List ℕ) (n k : ℕ) (v : Verdict) → Sounds t v → Sounds t (faultsFrom ss h list n k v)
-  unfolding faultsFrom
-  faults-sound ss list zero k v x = x
-  faults-sound ss list (suc n) k v x =
-      on (Sounds t) _ (λ _. five 0x26 0x00) (λ _. on (Sounds t) _ (λ _. five 0x21 0x01) (λ _. faults-sound ss list n (suc k) v x))
 
   unit-cleared : unit (change (Sense h 0 0 0) t .head) ≡ unit (t .head)
   unfolding unit change inHead
@@ -171,20 +153,18 @@ holds-sound ss h i list zero k t s f = s
 holds-sound ss h i list (suc n) k t s f = holds-sound ss h i list n (suc k) _ (change-sound (Hold _ _ h i) t f s) f
 
 module _ (t : Tables) (s : Sound t) (h : ℕ) (l : 1 ≤ h) (m : h ≤ hosts) where
-  reserveUnit-sound : Sounds t (reserveUnit t h)
-  unfolding reserveUnit good changes
-  reserveUnit-sound =
-      on (Sounds t) _ (λ _. conflict-sound t s h l m) (λ e. change-sound (HoldUnit h) _ (m, own e) (cleared t s h l m))
+  -- no other host holds an element: this host may hold the unit
+  unit-sound : anyFrom (λ p. other h (holder (t .elements) p)) (places (t .elements)) 0 ≡ false → Sounds t (good h (HoldUnit h ∷ []))
+  unfolding good changes
+  unit-sound e = change-sound (HoldUnit h) _ (m, own) (cleared t s h l m)
     where
-      held : (e : anyFrom (λ p. other h (holder (t .elements) p)) (places (t .elements)) 0 ≡ false) (p : ℕ) → p < length (roster (t .head))
-          → holder (t .elements) p ≢ 0 → holder (t .elements) p ≡ h
-      held e p i n =
+      held : (p : ℕ) → p < length (roster (t .head)) → holder (t .elements) p ≢ 0 → holder (t .elements) p ≡ h
+      held p i n =
           other-false h _ (any-nowhere (λ p. other h (holder (t .elements) p)) (places (t .elements)) 0 e p (omega arith) (omega (arith, places-is t s))) n
 
-      own : anyFrom (λ p. other h (holder (t .elements) p)) (places (t .elements)) 0 ≡ false
-          → (p : ℕ) → p < length (roster (change (Sense h 0 0 0) t .head)) → h ≢ 0 → holder (change (Sense h 0 0 0) t .elements) p ≢ 0
+      own : (p : ℕ) → p < length (roster (change (Sense h 0 0 0) t .head)) → h ≢ 0 → holder (change (Sense h 0 0 0) t .elements) p ≢ 0
           → holder (change (Sense h 0 0 0) t .elements) p ≡ h
-      own e p i _ n = unfold change inElements in held e p (omega (arith, ap length (roster-cleared t s h l m))) n
+      own p i _ n = unfold change inElements in held p (omega (arith, ap length (roster-cleared t s h l m))) n
 
   granted-sound : (i : ℕ) (list : List ℕ) → other h (unit (t .head)) ≡ false → Sounds t (good h (granted (roster (t .head)) h i list))
   unfolding good granted changes
@@ -194,20 +174,10 @@ module _ (t : Tables) (s : Sound t) (h : ℕ) (l : 1 ≤ h) (m : h ≤ hosts) wh
       fit : HoldFits (unit (change (Free (Under h i)) (change (Sense h 0 0 0) t) .head)) h i
       fit = unfold change inHead in rw (unit-cleared t s h l m) (own-fits t s h l m e i)
 
-  reserve-sound : (block list : List ℕ) → other h (unit (t .head)) ≡ false → Sounds t (reserve t h block list)
-  unfolding reserve reserveElements
-  reserve-sound block list e =
-      on (Sounds t) _ (λ _. five t s h l m 0x24 0x00)
-      λ _. on (Sounds t) _ (λ _. on (Sounds t) _ (λ _. five t s h l m 0x24 0x00) (λ _. reserveUnit-sound))
-      λ _. on (Sounds t) _ (λ _. five t s h l m 0x1A 0x00)
-      λ _. faults-sound t s h l m (roster (t .head)) list (descriptors list) 0 _
-      (on (Sounds t) _ (λ _. conflict-sound t s h l m) (λ _. granted-sound (byte block 2) list e))
-
   release-sound : (block : List ℕ) → Sounds t (release t h block)
-  unfolding release good releaseUnit
+  unfolding good releaseUnit
   release-sound block =
-      on (Sounds t) _ (λ _. five t s h l m 0x24 0x00)
-      λ _. on (Sounds t) _ (λ _. unit-freed) (λ _. unfold changes in change-sound (Free (Under h (byte block 2))) _ tt (cleared t s h l m))
+      release-by (Sounds t) t h block unit-freed (unfold changes in change-sound (Free (Under h (byte block 2))) _ tt (cleared t s h l m))
     where
       unit-freed : Sounds t (Done 0 [] (Sense h 0 0 0 ∷ when (eqb (unit (t .head)) h) (HoldUnit 0 ∷ Free (Every h) ∷ []) (Free (Every h) ∷ [])))
       unit-freed =
@@ -216,25 +186,23 @@ module _ (t : Tables) (s : Sound t) (h : ℕ) (l : 1 ≤ h) (m : h ≤ hosts) wh
           (λ _. change-sound (Free (Every h)) _ tt (change-sound (HoldUnit 0) _ (omega arith, λ p i n. absurd (n refl)) (cleared t s h l m)))
           (λ _. change-sound (Free (Every h)) _ tt (cleared t s h l m))
 
-  move-sound : (block : List ℕ) → Sounds t (move t h block)
-  unfolding move
-  move-sound block = moveOf-sound t s h l m block _ _ _
-
-  exchange-sound : (block : List ℕ) → Sounds t (exchange t h block)
-  unfolding exchange
-  exchange-sound block = exchangeOf-sound t s h l m block _ _ _ _
+  act-sound : (op : Operation) (block list : List ℕ) → Passed op t h → Sounds t (act op t h block list)
+  unfolding act
+  act-sound TestUnitReady block list e = ready-sound t s h l m
+  act-sound RequestSense block list e = requestSense-sound t s h l m block
+  act-sound Reserve block list e =
+      reserve-by (Sounds t) t h (refusals-sound t s h l m) block list unit-sound (granted-sound (byte block 2) list e)
+  act-sound Release block list e = release-sound block
+  act-sound PreventAllow block list e = prevent-sound t s h l m block
+  act-sound MoveMedium block list e = move-sound t s h l m block
+  act-sound ExchangeMedium block list e = exchange-sound t s h l m block
+  act-sound ReadElementStatus block list e = readStatus-sound t s h l m block
+  act-sound Unknown block list e = refusals-sound t s h l m .refuses InvalidOperation
 
   steps-sound : (block parameters : List ℕ) → Sounds t (steps t h block parameters)
   unfolding steps
   steps-sound block parameters =
-      on (Sounds t) _ (λ _. guarded-sound t s h l m _ (λ _. ready-sound t s h l m block))
-      λ _. on (Sounds t) _ (λ _. requestSense-sound t s h l m block)
-      λ _. on (Sounds t) _ (λ _. guarded-sound t s h l m _ (reserve-sound block parameters))
-      λ _. on (Sounds t) _ (λ _. afterAttention-sound t s h l m _ (release-sound block))
-      λ _. on (Sounds t) _ (λ _. guarded-sound t s h l m _ (λ _. prevent-sound t s h l m block))
-      λ _. on (Sounds t) _ (λ _. guarded-sound t s h l m _ (λ _. move-sound block))
-      λ _. on (Sounds t) _ (λ _. guarded-sound t s h l m _ (λ _. exchange-sound block))
-      λ _. on (Sounds t) _ (λ _. guarded-sound t s h l m _ (λ _. readStatus-sound t s h l m block)) λ _. five t s h l m 0x20 0x00
+      steps-by (Sounds t) t h (refusals-sound t s h l m) (operation block) block parameters (act-sound (operation block) block parameters)
 
 fits-sound : (t : Tables) (buffer : List ℕ) (v : Verdict) → Sounds t v → Sounds t (fits buffer v)
 unfolding fits

@@ -90,11 +90,6 @@ unfolding when
 on P true f g = f refl
 on P false f g = g refl
 
-pub when-is : {A : Type 0} (b : Bool) (x y z w : A) → (b ≡ true → x ≡ z) → (b ≡ false → y ≡ w) → when b x y ≡ when b z w
-unfolding when
-when-is true x y z w f g = f refl
-when-is false x y z w f g = g refl
-
 pub when-true : {A : Type 0} (b : Bool) (x y : A) → b ≡ true → when b x y ≡ x
 unfolding when
 when-true b x y e = rw e
@@ -102,6 +97,23 @@ when-true b x y e = rw e
 pub when-false : {A : Type 0} (b : Bool) (x y : A) → b ≡ false → when b x y ≡ y
 unfolding when
 when-false b x y e = rw e
+
+-- a test is the choice by it
+pub test-is : (b : Bool) → b ≡ when b true false
+unfolding when
+test-is true = refl
+test-is false = refl
+
+-- what is made of a choice is chosen likewise
+pub when-of : {A B : Type 0} (f : A → B) (b : Bool) (x y : A) → f (when b x y) ≡ when b (f x) (f y)
+unfolding when
+when-of f true x y = refl
+when-of f false x y = refl
+
+pub when-not : {A : Type 0} (b : Bool) (x y : A) → when (not b) x y ≡ when b y x
+unfolding when
+when-not true x y = refl
+when-not false x y = refl
 
 -- two numbers are equal, or they are not
 pub either : {P : Type 0} (a b : ℕ) → (a ≡ b → P) → (a ≢ b → P) → P
@@ -126,6 +138,9 @@ unless-of a b x f = on (λ (y : Bool). y ≡ true) (eqb a b) (λ _. refl) (λ e.
 
 -- ---- tests taken apart
 
+pub never : false ≡ true → ⊥
+never e = let y : _≡_ {A = ℕ} 0 1 = cc in omega arith
+
 -- one of the tests holds: the first, or one of the rest
 pub any-cases : {P : Type 0} (b : Bool) (bs : List Bool) → anyOf (b ∷ bs) ≡ true → (b ≡ true → P) → (anyOf bs ≡ true → P) → P
 unfolding anyOf when
@@ -143,7 +158,7 @@ any-by-rest false bs e = e
 
 pub any-nil : anyOf [] ≡ true → ⊥
 unfolding anyOf
-any-nil e = let y : _≡_ {A = ℕ} 0 1 = cc in omega arith
+any-nil e = never e
 
 pub any-first : (b : Bool) (bs : List Bool) → anyOf (b ∷ bs) ≡ false → b ≡ false
 unfolding anyOf when

@@ -6,6 +6,9 @@ pub mod Places
 pub mod Soundness
 pub mod HeadFields
 pub mod ElementFields
+pub mod Local
+pub mod Operations
+pub mod Walks
 pub mod KeepHead
 pub mod KeepElements
 pub mod Keep
@@ -21,5 +24,6 @@ pub mod Sequences
 pub mod Counts
 pub mod Volumes
 pub mod Rungs
+pub mod Loops
 pub mod Ascending
 pub mod Header

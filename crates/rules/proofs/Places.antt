@@ -9,10 +9,10 @@ use lib.ListN.{length, length-append}
 use lib.Dec.{eqb, leb}
 use borrow.Author.Tests.{eqb-true}
 use Rattle.rules.specs.Choice.{when}
-use Rattle.rules.specs.Bytes.{byte, word, put}
+use Rattle.rules.specs.Bytes.{byte, word}
 use Rattle.rules.specs.Tables.{rangeAt, unitAt}
 use Rattle.rules.specs.Roster.{Range, Slot, range, ranges, slots, spread, insert, sorted, roster, kindAt, placeOf, kindOf, drive}
-use Rattle.rules.proofs.Writes.{byte-put}
+use Rattle.rules.specs.Ranges.{total}
 
 -- ---- the place of an address that stands
 
@@ -52,24 +52,20 @@ place-apart (s ∷ ss) a b n k e = go (place-apart ss a b n) (eqb (s .address) a
 
 -- ---- how many elements
 
-abbrev total : List Range → ℕ
-total [] = 0
-total (r ∷ rs) = r .count + total rs
-
-length-slots : (k a p n : ℕ) → length (slots k a p n) ≡ n
+pub slots-length : (k a p n : ℕ) → length (slots k a p n) ≡ n
 unfolding slots
-length-slots k a p zero = refl
-length-slots k a p (suc n) = ap suc (length-slots k (suc a) (suc p) n)
+slots-length k a p zero = refl
+slots-length k a p (suc n) = ap suc (slots-length k (suc a) (suc p) n)
 
-length-spread : (p : ℕ) (rs : List Range) → length (spread p rs) ≡ total rs
-unfolding spread
-length-spread p [] = refl
-length-spread p (r ∷ rs) =
-    let i = length-spread (p + r .count) rs in
-    omega (arith, length-append (slots (r .kind) (r .first) p (r .count)) (spread (p + r .count) rs), length-slots (r .kind) (r .first) p (r .count))
+pub spread-length : (p : ℕ) (rs : List Range) → length (spread p rs) ≡ total rs
+unfolding spread total
+spread-length p [] = refl
+spread-length p (r ∷ rs) =
+    let i = spread-length (p + r .count) rs in
+    omega (arith, length-append (slots (r .kind) (r .first) p (r .count)) (spread (p + r .count) rs), slots-length (r .kind) (r .first) p (r .count))
 
 total-insert : (r : Range) (rs : List Range) → total (insert r rs) ≡ r .count + total rs
-unfolding insert when
+unfolding insert when total
 total-insert r [] = refl
 total-insert r (s ∷ ss) = go (total-insert r ss) (leb (r .first) (s .first))
   where
@@ -78,14 +74,14 @@ total-insert r (s ∷ ss) = go (total-insert r ss) (leb (r .first) (s .first))
     go ih false = omega arith
 
 total-sorted : (rs : List Range) → total (sorted rs) ≡ total rs
-unfolding sorted
+unfolding sorted total
 total-sorted [] = refl
 total-sorted (r ∷ rs) = let i = total-sorted rs in omega (arith, total-insert r (sorted rs))
 
 pub roster-length : (head : List ℕ)
     → length (roster head) ≡ range head 0 .count + range head 1 .count + range head 2 .count + range head 3 .count
-unfolding roster ranges
-roster-length head = omega (arith, length-spread 0 (sorted (ranges head)), total-sorted (ranges head))
+unfolding roster ranges total
+roster-length head = omega (arith, spread-length 0 (sorted (ranges head)), total-sorted (ranges head))
 
 -- ---- every type is one of the four
 
@@ -129,10 +125,6 @@ kinds-spread p [] ks = tt
 kinds-spread p (r ∷ rs) (k, ks) =
     kinds-append (slots (r .kind) (r .first) p (r .count)) (spread (p + r .count) rs) (kinds-slots (r .kind) (r .first) p (r .count) k) (kinds-spread (p + r .count) rs ks)
 
-kinds-roster : (head : List ℕ) → AllKinds (roster head)
-unfolding roster ranges range
-kinds-roster head = kinds-spread 0 (sorted (ranges head)) (kinds-sorted (ranges head) (omega arith))
-
 kinds-at : (ss : List Slot) → AllKinds ss → (p : ℕ) → p < length ss → Kind (kindAt ss p)
 unfolding kindAt
 kinds-at [] ks p h = absurd (omega arith)
@@ -147,12 +139,6 @@ kinds-of (s ∷ ss) (k, ks) a = go (kinds-of ss ks a) (eqb (s .address) a)
     go : kindOf ss a ≤ drive → (b : Bool) → when b (s .kind) (kindOf ss a) ≤ drive
     go ih true = k .1
     go ih false = ih
-
-pub kind-at : (head : List ℕ) (p : ℕ) → p < length (roster head) → (1 ≤ kindAt (roster head) p) × (kindAt (roster head) p ≤ drive)
-kind-at head p h = kinds-at (roster head) (kinds-roster head) p h
-
-pub kind-of : (head : List ℕ) (a : ℕ) → kindOf (roster head) a ≤ drive
-kind-of head a = kinds-of (roster head) (kinds-roster head) a
 
 -- ---- the bytes before the unit holder's are all that ranges and roster are read from
 
@@ -179,7 +165,3 @@ ranges-same head head′ s = cc (r 0 (omega arith), r 1 (omega arith), r 2 (omeg
 pub roster-same : (head head′ : List ℕ) → SameRanges head head′ → roster head′ ≡ roster head
 unfolding roster
 roster-same head head′ s = cc (ranges-same head head′ s)
-
--- a write from the unit holder's byte on
-pub roster-put : (head : List ℕ) (i : ℕ) (bytes : List ℕ) → unitAt ≤ i → roster (put head i bytes) ≡ roster head
-roster-put head i bytes h = roster-same head (put head i bytes) (λ j l. byte-put head i j bytes (λ k m. omega arith))

@@ -1,16 +1,16 @@
 -- Further laws for runs of tests: numbers that came from a call, and lists of tests as the answer itself. Assumes nothing.
-use Prim.Native.Nat.{ℕ, _+_, _*_, _<_, _≤_, _/_}
+use Prim.Native.Nat.{ℕ, _+_, _<_, _≤_}
 use native.Mathlib.Omega.{arith}
 use mathlib.Core.Path.{_≡_, refl, sym, ap, _∙_}
 use mathlib.Core.Bool.{Bool, true, false}
 use mathlib.Core.List.{List, [], _∷_}
 use lib.ListN.{length}
-use lib.Dec.{eqb, leb}
-use borrow.Author.Tests.{eq-eqb, ne-eqb, le-leb, lt-leb}
+use lib.Dec.{eqb}
+use borrow.Author.Tests.{eq-eqb, ne-eqb}
 use Rattle.rules.specs.Choice.{when, anyOf, allOf, differ}
-use Rattle.rules.specs.Tables.{elementAt, elementSize, places}
-use Rattle.rules.specs.Order.{other}
-use Rattle.rules.proofs.Ladder.{differ-is, differ-not, ne-differ, eq-differ}
+use Rattle.rules.specs.Tables.{Tables, elementAt, elementSize, places}
+use Rattle.rules.specs.Order.{Verdict, Outcome, outcome, other}
+use Rattle.rules.proofs.Ladder.{differ-is, differ-not, ne-differ, eq-differ, test-is}
 
 -- a place of the table has its bytes there
 pub room : (es : List ℕ) (p : ℕ) → p < places es → elementAt p + elementSize ≤ length es
@@ -52,6 +52,25 @@ pass-eq a b z bs n w = pass (eqb a b) (eqb a b) z bs refl (ne-eqb a b n) w
 
 pub ruleset rungs = (differ-yes, differ-no, hit, pass, only, hit-eq, pass-eq)
 
+-- ---- the last test is the answer, for searches
+
+pub as-choice : (z b : Bool) → z ≡ when b true false → z ≡ b
+as-choice z b e = e ∙ sym (test-is b)
+
+-- the last test of a list is handed on
+pub last-of-any : (b : Bool) → b ≡ when (anyOf (b ∷ [])) true false
+unfolding anyOf
+last-of-any b = rw (sym (test-is b)) (test-is b)
+
+pub last-of-all : (b : Bool) → b ≡ when (allOf (b ∷ [])) true false
+unfolding allOf
+last-of-all b = rw (sym (test-is b)) (test-is b)
+
+-- ---- an outcome by its verdict
+
+pub ends-as : (t : Tables) (buffer : List ℕ) {o : Outcome} {v w : Verdict} → o ≡ outcome t buffer v → v ≡ w → o ≡ outcome t buffer w
+ends-as t buffer e d = e ∙ ap (outcome t buffer) d
+
 -- ---- the tests of `other`
 
 pub nobody : (h o : ℕ) → o ≡ 0 → false ≡ other h o
@@ -60,8 +79,4 @@ nobody h o e = rw (eq-differ o 0 e)
 
 pub somebody : (h o : ℕ) (b : Bool) → (o ≡ 0 → ⊥) → b ≡ differ o h → b ≡ other h o
 unfolding other allOf when
-somebody h o b n e = rw (ne-differ o 0 n, e) (go (differ o h))
-  where
-    go : (d : Bool) → d ≡ when d true false
-    go true = refl
-    go false = refl
+somebody h o b n e = rw (ne-differ o 0 n, e) (test-is (differ o h))

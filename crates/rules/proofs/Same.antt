@@ -1,76 +1,48 @@
 -- What a command of demand 3 reads: tables that are alike in that much are answered alike. Assumes nothing.
-use Prim.Native.Nat.{ℕ}
-use mathlib.Core.Path.{_≡_, refl, sym, ap, _∙_}
+use Prim.Native.Nat.{ℕ, _+_, _<_}
+use native.Mathlib.Omega.{arith}
+use mathlib.Core.Path.{_≡_, refl, ap, _∙_}
 use mathlib.Core.Bool.{true}
 use mathlib.Core.List.{List, [], _∷_, List·Memᴰ}
-use borrow.Author.Tests.{eqb-true}
-use Rattle.rules.specs.Choice.{when}
-use Rattle.rules.specs.Bytes.{word}
-use Rattle.rules.specs.Tables.{Tables, unit, key, asc, ascq, attention, attentionq}
-use Rattle.rules.specs.Roster.{roster}
+use Rattle.rules.specs.Bytes.{byte, word}
+use Rattle.rules.specs.Tables.{Tables, hostAt, attentionAt, elementAt, elementSize, unit, key, asc, ascq, attention, attentionq, volume}
+use Rattle.rules.specs.Roster.{roster, placeOf}
 use Rattle.rules.specs.Order.{Verdict, other, heldByOther, volumeOf, afterAttention, afterUnit, guarded}
-use Rattle.rules.specs.Moves.{ready, transportUsed, noTransport, noPlace, leave, carry, moveOf, move, exchangeOf, exchange}
+use Rattle.rules.specs.Moves.{transportUsed, noTransport, noPlace, leave, carry, moveOf, move, exchangeOf, exchange}
 use Rattle.rules.specs.Sense.{tellsAttention, requestSense}
-use Rattle.rules.specs.Command.{Request, operation, TEST-UNIT-READY, REQUEST-SENSE, MOVE-MEDIUM, EXCHANGE-MEDIUM, steps, judged}
-use Rattle.rules.specs.Histories.{named, mixes}
-use Rattle.rules.proofs.Ladder.{any-cases, any-nil}
+use Rattle.rules.specs.Operation.{Operation, TestUnitReady, RequestSense, Reserve, Release, PreventAllow, MoveMedium, ExchangeMedium, ReadElementStatus, Unknown, operation}
+use Rattle.rules.specs.Form.{formed}
+use Rattle.rules.specs.Command.{Request, act, admitted, stepsOf, steps, judged}
+use Rattle.rules.specs.Histories.{named, namedBy, mixes, joins}
+use Rattle.rules.proofs.Ladder.{never}
+use Rattle.rules.proofs.Local.{OfHost}
 
--- the addresses that a block's command touches: the transport used, and those named
+-- the j-th byte of the record of the element at an address
+abbrev pub recordByte : Tables → ℕ → ℕ → ℕ
+recordByte t a j = byte (t .elements) (elementAt (placeOf (roster (t .head)) a) + j)
+
+-- the addresses that a block's command touches: those named and, where one is, the transport used
+unfoldable pub touching : Tables → List ℕ → List ℕ → List ℕ
+touching t block [] = []
+touching t block (a ∷ more) = transportUsed t (word block 2) ∷ a ∷ more
+
 unfoldable pub touched : Tables → List ℕ → List ℕ
-touched t block = transportUsed t (word block 2) ∷ named block
+touched t block = touching t block (named block)
 
--- t and u are alike in all that a command of host h reads which touches T and names N
+-- t and u are alike in all that a command of host h reads which touches T and names N: the elements there are, whether another host holds the
+-- unit or an element touched, the host's own bytes of the head, and the bytes of the elements named
 pub record Same (h : ℕ) (T N : List ℕ) (t u : Tables) : Type 0 where
   pub roster-is : roster (t .head) ≡ roster (u .head)
   pub unit-is : other h (unit (t .head)) ≡ other h (unit (u .head))
-  pub key-is : key (t .head) h ≡ key (u .head) h
-  pub asc-is : asc (t .head) h ≡ asc (u .head) h
-  pub ascq-is : ascq (t .head) h ≡ ascq (u .head) h
-  pub attention-is : attention (t .head) h ≡ attention (u .head) h
-  pub attentionq-is : attentionq (t .head) h ≡ attentionq (u .head) h
+  pub own-is : (j : ℕ) → OfHost h j → byte (t .head) j ≡ byte (u .head) j
   pub held-is : (a : ℕ) → List·Memᴰ a T → heldByOther t h a ≡ heldByOther u h a
-  pub volume-is : (a : ℕ) → List·Memᴰ a N → volumeOf t a ≡ volumeOf u a
+  pub record-is : (a : ℕ) → List·Memᴰ a N → (j : ℕ) → j < elementSize → recordByte t a j ≡ recordByte u a j
 
 pub here : (a : ℕ) (N : List ℕ) → List·Memᴰ a (a ∷ N)
 here a N = List·Memᴰ.List·Memᴰ·head refl
 
 pub there : {a b : ℕ} {N : List ℕ} → List·Memᴰ a N → List·Memᴰ a (b ∷ N)
 there m = List·Memᴰ.List·Memᴰ·tail m
-
--- ---- the four commands of demand 3, by the first byte
-
-pub mixed : {P : Type 0} (block : List ℕ) → mixes block ≡ true → (operation block ≡ TEST-UNIT-READY → P) → (operation block ≡ REQUEST-SENSE → P)
-    → (operation block ≡ MOVE-MEDIUM → P) → (operation block ≡ EXCHANGE-MEDIUM → P) → P
-unfolding mixes
-mixed block e f g i j =
-    any-cases _ _ e (λ x. f (eqb-true _ _ x))
-    λ e. any-cases _ _ e (λ x. g (eqb-true _ _ x))
-    λ e. any-cases _ _ e (λ x. i (eqb-true _ _ x)) λ e. any-cases _ _ e (λ x. j (eqb-true _ _ x)) λ e. absurd (any-nil e)
-
-module _ (t : Tables) (h : ℕ) (block list : List ℕ) where
-  pub steps-ready : operation block ≡ TEST-UNIT-READY → steps t h block list ≡ guarded t h (ready h block)
-  unfolding steps when
-  steps-ready e = rw e
-
-  pub steps-sense : operation block ≡ REQUEST-SENSE → steps t h block list ≡ requestSense t h block
-  unfolding steps when
-  steps-sense e = rw e
-
-  pub steps-move : operation block ≡ MOVE-MEDIUM → steps t h block list ≡ guarded t h (move t h block)
-  unfolding steps when
-  steps-move e = rw e
-
-  pub steps-exchange : operation block ≡ EXCHANGE-MEDIUM → steps t h block list ≡ guarded t h (exchange t h block)
-  unfolding steps when
-  steps-exchange e = rw e
-
-pub named-move : (block : List ℕ) → operation block ≡ MOVE-MEDIUM → named block ≡ word block 4 ∷ word block 6 ∷ []
-unfolding named when
-named-move block e = rw e
-
-pub named-exchange : (block : List ℕ) → operation block ≡ EXCHANGE-MEDIUM → named block ≡ word block 4 ∷ word block 6 ∷ word block 8 ∷ []
-unfolding named when
-named-exchange block e = rw e
 
 -- ---- alike in what is read: alike in the verdict
 
@@ -91,22 +63,43 @@ module _ (h : ℕ) (T N : List ℕ) (t u : Tables) (s : Same h T N t u) where
   unfolding leave
   leave-is a = cc (s .roster-is)
 
+  volume-is : (a : ℕ) → List·Memᴰ a N → volumeOf t a ≡ volumeOf u a
+  unfolding volumeOf volume word
+  volume-is a m =
+      let p = elementAt (placeOf (roster (t .head)) a) in
+      let q = elementAt (placeOf (roster (u .head)) a) in
+      let x : p + 0 ≡ p = omega arith in
+      let y : q + 0 ≡ q = omega arith in
+      cc (s .record-is a m 0 (omega arith), s .record-is a m 1 (omega arith), x, y)
+
   carry-is : (a b : ℕ) → List·Memᴰ a N → carry t a b ≡ carry u a b
   unfolding carry
-  carry-is a b m = cc (s .roster-is, s .volume-is a m)
+  carry-is a b m = cc (s .roster-is, volume-is a m)
+
+  attention-is : attention (t .head) h ≡ attention (u .head) h
+  unfolding attention
+  attention-is = s .own-is (attentionAt h) (omega arith, omega arith)
+
+  attentionq-is : attentionq (t .head) h ≡ attentionq (u .head) h
+  unfolding attentionq
+  attentionq-is = s .own-is (1 + attentionAt h) (omega arith, omega arith)
 
   guarded-is : (v w : Verdict) → v ≡ w → guarded t h v ≡ guarded u h w
   unfolding guarded afterAttention afterUnit
-  guarded-is v w e = cc (s .unit-is, s .attention-is, s .attentionq-is)
+  guarded-is v w e = cc (s .unit-is, attention-is, attentionq-is)
 
   sense-is : (block : List ℕ) → requestSense t h block ≡ requestSense u h block
-  unfolding requestSense tellsAttention
-  sense-is block = cc (s .key-is, s .asc-is, s .ascq-is, s .attention-is, s .attentionq-is)
+  unfolding requestSense tellsAttention key asc ascq
+  sense-is block =
+      let key-is = s .own-is (hostAt h) (omega arith, omega arith) in
+      let asc-is = s .own-is (1 + hostAt h) (omega arith, omega arith) in
+      let ascq-is = s .own-is (2 + hostAt h) (omega arith, omega arith) in
+      cc (key-is, asc-is, ascq-is, attention-is, attentionq-is)
 
-  moveOf-is : (block : List ℕ) (arm from to : ℕ) → List·Memᴰ arm T → List·Memᴰ from T → List·Memᴰ to T → List·Memᴰ from N → List·Memᴰ to N
-      → moveOf t h block arm from to ≡ moveOf u h block arm from to
+  moveOf-is : (arm from to : ℕ) → List·Memᴰ arm T → List·Memᴰ from T → List·Memᴰ to T → List·Memᴰ from N → List·Memᴰ to N
+      → moveOf t h arm from to ≡ moveOf u h arm from to
   unfolding moveOf
-  moveOf-is block arm from to x y z m n =
+  moveOf-is arm from to x y z m n =
       cc (
         noTransport-is arm,
         noPlace-is from,
@@ -114,17 +107,17 @@ module _ (h : ℕ) (T N : List ℕ) (t u : Tables) (s : Same h T N t u) where
         s .held-is arm x,
         s .held-is from y,
         s .held-is to z,
-        s .volume-is from m,
-        s .volume-is to n,
+        volume-is from m,
+        volume-is to n,
         leave-is from,
         carry-is from to m,
       )
 
-  exchangeOf-is : (block : List ℕ) (arm from first second : ℕ)
+  exchangeOf-is : (arm from first second : ℕ)
       → List·Memᴰ arm T → List·Memᴰ from T → List·Memᴰ first T → List·Memᴰ second T → List·Memᴰ from N → List·Memᴰ first N → List·Memᴰ second N
-      → exchangeOf t h block arm from first second ≡ exchangeOf u h block arm from first second
+      → exchangeOf t h arm from first second ≡ exchangeOf u h arm from first second
   unfolding exchangeOf
-  exchangeOf-is block arm from first second x y z w m n o =
+  exchangeOf-is arm from first second x y z w m n o =
       cc (
         noTransport-is arm,
         noPlace-is from,
@@ -134,53 +127,50 @@ module _ (h : ℕ) (T N : List ℕ) (t u : Tables) (s : Same h T N t u) where
         s .held-is from y,
         s .held-is first z,
         s .held-is second w,
-        s .volume-is from m,
-        s .volume-is first n,
-        s .volume-is second o,
+        volume-is from m,
+        volume-is first n,
+        volume-is second o,
         leave-is from,
         leave-is first,
         carry-is first second n,
         carry-is from first m,
       )
 
-module _ (h : ℕ) (block : List ℕ) (t u : Tables) (s : Same h (touched t block) (named block) t u) where
-  -- the transport used, and every address named, is touched
-  arm-touched : List·Memᴰ (transportUsed t (word block 2)) (touched t block)
-  unfolding touched
-  arm-touched = here _ _
+module _ (h : ℕ) (block : List ℕ) (t u : Tables) where
+  -- by the operation of the block
+  abbrev Alike : Operation → Type 0
+  Alike op = Same h (touching t block (namedBy op block)) (namedBy op block) t u
 
-  named-touched : (a : ℕ) → List·Memᴰ a (named block) → List·Memᴰ a (touched t block)
-  unfolding touched
-  named-touched a m = there m
+  move-is : Alike MoveMedium → move t h block ≡ move u h block
+  unfolding move touching namedBy
+  move-is s =
+      moveOf-is h _ _ t u s _ _ _ (here _ _) (there (here _ _)) (there (there (here _ _))) (here _ _) (there (here _ _))
+      ∙ ap (λ (arm : ℕ). moveOf u h arm (word block 4) (word block 6)) (transportUsed-is h _ _ t u s (word block 2))
 
-  move-is : operation block ≡ MOVE-MEDIUM → move t h block ≡ move u h block
-  unfolding move
-  move-is e =
-      let from : List·Memᴰ (word block 4) (named block) = rw (named-move block e) (here _ _) in
-      let to : List·Memᴰ (word block 6) (named block) = rw (named-move block e) (there (here _ _)) in
-      moveOf-is h (touched t block) (named block) t u s block _ _ _ arm-touched (named-touched _ from) (named-touched _ to) from to
-      ∙ ap (λ (arm : ℕ). moveOf u h block arm (word block 4) (word block 6)) (transportUsed-is h (touched t block) (named block) t u s (word block 2))
+  exchange-is : Alike ExchangeMedium → exchange t h block ≡ exchange u h block
+  unfolding exchange touching namedBy
+  exchange-is s =
+      exchangeOf-is h _ _ t u s _ _ _ _ (here _ _) (there (here _ _)) (there (there (here _ _))) (there (there (there (here _ _))))
+      (here _ _) (there (here _ _)) (there (there (here _ _)))
+      ∙ ap (λ (arm : ℕ). exchangeOf u h arm (word block 4) (word block 6) (word block 8)) (transportUsed-is h _ _ t u s (word block 2))
 
-  exchange-is : operation block ≡ EXCHANGE-MEDIUM → exchange t h block ≡ exchange u h block
-  unfolding exchange
-  exchange-is e =
-      let from : List·Memᴰ (word block 4) (named block) = rw (named-exchange block e) (here _ _) in
-      let first : List·Memᴰ (word block 6) (named block) = rw (named-exchange block e) (there (here _ _)) in
-      let second : List·Memᴰ (word block 8) (named block) = rw (named-exchange block e) (there (there (here _ _))) in
-      exchangeOf-is h (touched t block) (named block) t u s block _ _ _ _
-      arm-touched (named-touched _ from) (named-touched _ first) (named-touched _ second) from first second
-      ∙ ap (λ (arm : ℕ). exchangeOf u h block arm (word block 4) (word block 6) (word block 8)) (transportUsed-is h (touched t block) (named block) t u s (word block 2))
+  stepsOf-is : (op : Operation) (list : List ℕ) → joins op ≡ true → Alike op → stepsOf op t h block list ≡ stepsOf op u h block list
+  unfolding stepsOf admitted act joins
+  stepsOf-is TestUnitReady list m s = guarded-is h _ _ t u s _ _ refl
+  stepsOf-is RequestSense list m s = ap (formed RequestSense h block list) (sense-is h _ _ t u s block)
+  stepsOf-is Reserve list m s = absurd (never m)
+  stepsOf-is Release list m s = absurd (never m)
+  stepsOf-is PreventAllow list m s = absurd (never m)
+  stepsOf-is MoveMedium list m s = guarded-is h _ _ t u s _ _ (ap (formed MoveMedium h block list) (move-is s))
+  stepsOf-is ExchangeMedium list m s = guarded-is h _ _ t u s _ _ (ap (formed ExchangeMedium h block list) (exchange-is s))
+  stepsOf-is ReadElementStatus list m s = absurd (never m)
+  stepsOf-is Unknown list m s = absurd (never m)
 
-  pub steps-is : (list : List ℕ) → mixes block ≡ true → steps t h block list ≡ steps u h block list
-  steps-is list m =
-      let g : (v w : Verdict) → v ≡ w → guarded t h v ≡ guarded u h w = guarded-is h (touched t block) (named block) t u s in
-      mixed block m
-      (λ e. steps-ready t h block list e ∙ g _ _ refl ∙ sym (steps-ready u h block list e))
-      (λ e. steps-sense t h block list e ∙ sense-is h (touched t block) (named block) t u s block ∙ sym (steps-sense u h block list e))
-      (λ e. steps-move t h block list e ∙ g _ _ (move-is e) ∙ sym (steps-move u h block list e))
-      (λ e. steps-exchange t h block list e ∙ g _ _ (exchange-is e) ∙ sym (steps-exchange u h block list e))
+  pub steps-is : (list : List ℕ) → mixes block ≡ true → Same h (touched t block) (named block) t u → steps t h block list ≡ steps u h block list
+  unfolding steps mixes touched named
+  steps-is list m s = stepsOf-is (operation block) list m s
 
 pub judged-is : (r : Request) (t u : Tables) → mixes (r .block) ≡ true → Same (r .host) (touched t (r .block)) (named (r .block)) t u
     → judged t r ≡ judged u r
 unfolding judged
-judged-is r t u m s = rw (steps-is (r .host) (r .block) t u s (r .parameters) m)
+judged-is r t u m s = rw (steps-is (r .host) (r .block) t u (r .parameters) m s)

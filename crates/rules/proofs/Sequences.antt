@@ -2,29 +2,14 @@
 use mathlib.Core.Path.{_≡_, refl}
 use mathlib.Core.Logic.{_≢_, ⊎-elim}
 use mathlib.Core.Bool.{true}
-use mathlib.Core.List.{List, [], _∷_, List·Memᴰ, List·Memᴰ·not-nil, List·Memᴰ·cases-cons}
-use Rattle.rules.specs.Tables.{Tables, Change, change, changes}
+use mathlib.Core.List.{List, List·Memᴰ, List·Memᴰ·not-nil, List·Memᴰ·cases-cons}
+use Rattle.rules.specs.Tables.{Tables}
 use Rattle.rules.specs.Sound.{sound}
 use Rattle.rules.specs.Order.{Verdict, Number, Prevented, Done, Outcome, outcome, after}
 use Rattle.rules.specs.Command.{Call, verdict, bufferOf, serve}
 use Rattle.rules.specs.Histories.{next, run, outcomes, History, begun, called}
 use Rattle.rules.proofs.Keeps.{sound-stays}
 use Rattle.rules.proofs.Untouched.{sound-number}
-
--- beside the head and the elements nothing is written
-changes-rest : (cs : List Change) (t : Tables) → changes cs t .rest ≡ t .rest
-unfolding changes change
-changes-rest [] t = refl
-changes-rest (c ∷ cs) t = changes-rest cs (change c t)
-
-pub rest-stays : (t : Tables) (c : Call) → serve t c .tables .rest ≡ t .rest
-unfolding serve
-rest-stays t c = go (verdict t c)
-  where
-    go : (v : Verdict) → outcome t (bufferOf c) v .tables .rest ≡ t .rest
-    go (Number n) = unfold outcome in refl
-    go (Prevented n h) = unfold outcome in refl
-    go (Done status bytes cs) = unfold outcome in changes-rest cs t
 
 -- the tables that an outcome leaves are those that the next call finds
 pub leaves-next : (t : Tables) (c : Call) → serve t c .tables ≡ next t c

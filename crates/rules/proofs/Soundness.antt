@@ -13,7 +13,6 @@ use Rattle.rules.specs.Tables.{Tables, Rest, headSize, elementSize, tagS
 use Rattle.rules.specs.Roster.{Slot, Range, range, ranges, roster, kindAt, kindOf, transport, port}
 use Rattle.rules.specs.Sound.{within, countsSound, behind, rangeSound, noOverlap, clear, rangesSound, transportEmpty, sourceSound, markSound, stockSound, holdSound, once, senseSound, attentionSound, headSound, labelsSound, restSound, elementsSound, sound}
 use Rattle.rules.proofs.Ladder.{either, if-true, if-of, unless-true, unless-of, any-cases, any-by-first, any-by-rest, any-nil, all-first, all-rest, all-cons, all-nil, differ-true, ne-differ, below-at, below-of}
-use Rattle.rules.proofs.Places.{roster-length}
 
 -- ---- small tests
 
@@ -165,13 +164,6 @@ range-true r e = go (eqb (r .count) 0) refl e
           low = λ _. leb-true _ _ (all-first _ _ d);
           high = λ _. leb-true _ _ (all-first _ _ (all-rest _ _ d));
         }
-
--- two ranges that do not overlap: the one that is not behind is before
-pub apart-true : (r s : Range) → noOverlap r s ≡ true → s .first < behind r → behind s ≤ r .first
-unfolding noOverlap
-apart-true r s e l =
-    any-cases _ _ e (λ z. absurd (omega (arith, leb-true (behind r) (s .first) z)))
-    λ d. any-cases _ _ d (λ z. leb-true _ _ z) λ c. absurd (any-nil c)
 
 -- the ranges of a list, by their index: each is sound, and each two apart
 clear-at : (r d : Range) (ss : List Range) → clear r ss ≡ true → (k : ℕ) → k < length ss → noOverlap r (getD ss k d) ≡ true
@@ -404,12 +396,6 @@ sound-of t s =
     (all-cons _ _ (rest-of _ (s .rest-fits)) (all-cons _ _ (elements-of _ _ _ _ (s .elements-fit)) all-nil))
 
 -- ---- how many elements
-
-pub roster-some : (t : Tables) → Sound t → 1 ≤ length (roster (t .head))
-roster-some t s = omega (arith, roster-length (t .head), s .head-fits .elements-some)
-
-pub roster-most : (t : Tables) → Sound t → length (roster (t .head)) ≤ 512
-roster-most t s = omega (arith, roster-length (t .head), s .head-fits .elements-most)
 
 pub elements-length : (t : Tables) → Sound t → length (t .elements) ≡ elementSize * length (roster (t .head))
 elements-length t s = s .elements-fit .length-is

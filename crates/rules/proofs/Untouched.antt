@@ -1,29 +1,30 @@
 -- Demand 1: what a call that is refused, by number or by status, leaves as it was; what every call leaves of the answer buffer; which
 -- calls return bytes. Assumes nothing.
-use Prim.Native.Nat.{ℕ, zero, suc, _+_, _<_, _≤_}
+use Prim.Native.Nat.{ℕ, _+_, _<_, _≤_}
 use native.Mathlib.Omega.{arith}
 use mathlib.Core.Path.{_≡_, refl, ap, _∙_}
 use mathlib.Core.Logic.{_≢_}
 use mathlib.Core.Bool.{Bool, true, false}
 use mathlib.Core.List.{List, [], _∷_}
 use lib.ListN.{length}
-use lib.Dec.{eqb, leb}
+use lib.Dec.{leb}
 use borrow.Author.Tests.{leb-true}
-use Rattle.rules.specs.Choice.{when, anyOf}
+use Rattle.rules.specs.Choice.{when}
 use Rattle.rules.specs.Bytes.{byte, put}
-use Rattle.rules.specs.Tables.{Tables, hostAt, Change, Sense, Attention, Announce, HoldUnit, Prevent, Fill, Hold, Free, inHead, inElements, change, changes}
-use Rattle.rules.specs.Roster.{Slot}
+use Rattle.rules.specs.Tables.{Tables, hostAt, Change, OfHead, OfElements, inHead, change, changes}
 use Rattle.rules.specs.Sound.{sound}
-use Rattle.rules.specs.Order.{Verdict, Number, Prevented, Done, Outcome, GOOD, CHECK-CONDITION, RESERVATION-CONFLICT, outcome, fits, good, check, conflict, afterAttention, afterUnit, guarded}
-use Rattle.rules.specs.Moves.{ready, moveOf, move, exchangeOf, exchange}
-use Rattle.rules.specs.Holds.{faultsFrom, reserveUnit, reserveElements, reserve, release, prevent}
+use Rattle.rules.specs.Order.{Verdict, Number, Prevented, Done, Outcome, GOOD, CHECK-CONDITION, RESERVATION-CONFLICT, Cause, InvalidOperation, outcome, fits, good, check, refused, conflict}
+use Rattle.rules.specs.Operation.{Operation, TestUnitReady, RequestSense, Reserve, Release, PreventAllow, MoveMedium, ExchangeMedium, ReadElementStatus, Unknown, operation}
+use Rattle.rules.specs.Moves.{move, exchange}
+use Rattle.rules.specs.Holds.{reserve, release, prevent}
 use Rattle.rules.specs.Sense.{requestSense}
 use Rattle.rules.specs.Listing.{readStatus}
 use Rattle.rules.specs.Events.{atPort, done, importing, exporting, resetting}
-use Rattle.rules.specs.Command.{Request, Call, Command, Import, Export, Reset, operation, REQUEST-SENSE, READ-ELEMENT-STATUS, steps, judged, judge, verdict, bufferOf, serve}
-use Rattle.rules.proofs.Ladder.{on, either, any-by-first, any-by-rest}
+use Rattle.rules.specs.Command.{Request, Call, Command, Import, Export, Reset, act, steps, judged, judge, verdict, bufferOf, serve}
+use Rattle.rules.proofs.Ladder.{on, either}
+use Rattle.rules.proofs.Walks.{Refusals, telling, refused-by, steps-by, move-by, exchange-by, reserve-by, release-by}
 use Rattle.rules.proofs.Writes.{put-length, byte-put}
-use Rattle.rules.proofs.HeadFields.{sensed-length, sensed-else, attended-length, attended-else}
+use Rattle.rules.proofs.Local.{Local, OfHost, leaves, leaves-length, sense-local, attention-local}
 
 -- ---- refused by number: no change is carried
 
@@ -61,23 +62,17 @@ buffer-length t buffer (Number n) = refl
 buffer-length t buffer (Prevented n h) = refl
 buffer-length t buffer (Done s bytes cs) = put-length buffer 0 bytes
 
--- ---- refused by status: the changes are the host's own five bytes
+-- ---- refused by status: the changes are within the host's own bytes
 
 abbrev Own : ℕ → Change → Type 0
-Own h (Sense g k a q) = g ≡ h
-Own h (Attention g a q) = g ≡ h
-Own h (Announce a q) = ⊥
-Own h (HoldUnit g) = ⊥
-Own h (Prevent m) = ⊥
-Own h (Fill p v s m) = ⊥
-Own h (Hold p n g i) = ⊥
-Own h (Free w) = ⊥
+Own h (OfHead c) = Local (OfHost h) (inHead c)
+Own h (OfElements c) = ⊥
 
 abbrev AllOwn : ℕ → List Change → Type 0
 AllOwn h [] = Unit {0}
 AllOwn h (c ∷ cs) = Own h c × AllOwn h cs
 
--- byte j is none of host h's five
+-- byte j is none of host h's
 abbrev pub OffHost : ℕ → ℕ → Type 0
 OffHost h j = hostAt h ≤ j → j < hostAt (1 + h) → ⊥
 
@@ -88,27 +83,15 @@ pub record OwnAlone (h : ℕ) (t u : Tables) : Type 0 where
   pub head-else : (j : ℕ) → OffHost h j → byte (u .head) j ≡ byte (t .head) j
 
 own-alone : (h : ℕ) (c : Change) (t : Tables) → Own h c → OwnAlone h t (change c t)
-unfolding change inHead inElements
-own-alone h (Sense g k a q) t e =
+unfolding change
+own-alone h (OfHead c) t l =
     record {
       elements-is = refl;
       rest-is = refl;
-      head-length = sensed-length (t .head) g k a q;
-      head-else = λ j d. sensed-else (t .head) g k a q j (λ m l x. d (omega arith) (omega arith));
+      head-length = leaves-length (OfHost h) (inHead c) l (t .head);
+      head-else = λ j d. leaves (OfHost h) (inHead c) l j (λ (a, b). d a b) (t .head);
     }
-own-alone h (Attention g a q) t e =
-    record {
-      elements-is = refl;
-      rest-is = refl;
-      head-length = attended-length (t .head) g a q;
-      head-else = λ j d. attended-else (t .head) g a q j (λ m l x. d (omega arith) (omega arith));
-    }
-own-alone h (Announce a q) t e = absurd e
-own-alone h (HoldUnit g) t e = absurd e
-own-alone h (Prevent m) t e = absurd e
-own-alone h (Fill p v s m) t e = absurd e
-own-alone h (Hold p n g i) t e = absurd e
-own-alone h (Free w) t e = absurd e
+own-alone h (OfElements c) t e = absurd e
 
 all-own-alone : (h : ℕ) (cs : List Change) (t : Tables) → AllOwn h cs → OwnAlone h t (changes cs t)
 unfolding changes
@@ -144,55 +127,44 @@ module _ (Q : ℕ → Type 0) (reads : Bool) (h : ℕ) where
 
   ends-check : (k a q : ℕ) → Ends Q reads h (check h k a q)
   unfolding check
-  ends-check k a q = record { three = λ _ n. absurd (n refl); own = λ _. (refl, tt); none = λ _. refl; silent = λ _. refl }
+  ends-check k a q = record { three = λ _ n. absurd (n refl); own = λ _. (sense-local h _ _ _, tt); none = λ _. refl; silent = λ _. refl }
 
   ends-conflict : Ends Q reads h (conflict h)
   unfolding conflict
-  ends-conflict = record { three = λ _ _. refl; own = λ _. (refl, tt); none = λ _. refl; silent = λ _. refl }
+  ends-conflict = record { three = λ _ _. refl; own = λ _. (sense-local h _ _ _, tt); none = λ _. refl; silent = λ _. refl }
 
   ends-good : (cs : List Change) → Ends Q reads h (good h cs)
   unfolding good
   ends-good cs = record { three = λ n _. absurd (n refl); own = λ z. absurd (z refl); none = λ _. refl; silent = λ _. refl }
 
-  ends-attention : (t : Tables) (v : Verdict) → Ends Q reads h v → Ends Q reads h (afterAttention t h v)
-  unfolding afterAttention
-  ends-attention t v e = ends-when _ _ _ e (record { three = λ _ n. absurd (n refl); own = λ _. (refl, (refl, tt)); none = λ _. refl; silent = λ _. refl })
-
-  ends-guarded : (t : Tables) (v : Verdict) → Ends Q reads h v → Ends Q reads h (guarded t h v)
-  unfolding guarded afterUnit
-  ends-guarded t v e = ends-attention t _ (ends-when _ _ _ ends-conflict e)
-
-  ends-faults : (ss : List Slot) (list : List ℕ) (n k : ℕ) (v : Verdict) → Ends Q reads h v → Ends Q reads h (faultsFrom ss h list n k v)
-  unfolding faultsFrom
-  ends-faults ss list zero k v e = e
-  ends-faults ss list (suc n) k v e = ends-when _ _ _ (ends-check _ _ _) (ends-when _ _ _ (ends-check _ _ _) (ends-faults ss list n (suc k) v e))
-
-ruleset rungs = (ends-when, ends-check, ends-conflict, ends-good, ends-faults)
+  ends-refusals : (t : Tables) → Refusals (Ends Q reads h) t h
+  unfolding telling
+  ends-refusals t =
+      record {
+        refuses = refused-by (Ends Q reads h) h (ends-check 5);
+        conflicts = ends-conflict;
+        tells = record { three = λ _ n. absurd (n refl); own = λ _. (sense-local h _ _ _, (attention-local h _ _, tt)); none = λ _. refl; silent = λ _. refl };
+      }
 
 module _ (Q : ℕ → Type 0) (reads : Bool) (t : Tables) (h : ℕ) (block : List ℕ) where
-  ends-ready : Ends Q reads h (ready h block)
-  unfolding ready
-  ends-ready = search rungs
-
   ends-move : Ends Q reads h (move t h block)
-  unfolding move moveOf
-  ends-move = search rungs depth 12
+  unfolding move
+  ends-move = move-by (Ends Q reads h) t h (ends-refusals Q reads h t) _ _ _ (λ _. ends-good Q reads h _)
 
   ends-exchange : Ends Q reads h (exchange t h block)
-  unfolding exchange exchangeOf
-  ends-exchange = search rungs depth 12
+  unfolding exchange
+  ends-exchange = exchange-by (Ends Q reads h) t h (ends-refusals Q reads h t) _ _ _ _ (λ _. ends-good Q reads h _)
 
   ends-reserve : (list : List ℕ) → Ends Q reads h (reserve t h block list)
-  unfolding reserve reserveUnit reserveElements
-  ends-reserve list = search rungs depth 12
+  ends-reserve list =
+      reserve-by (Ends Q reads h) t h (ends-refusals Q reads h t) block list (λ _. ends-good Q reads h _) (ends-good Q reads h _)
 
   ends-release : Ends Q reads h (release t h block)
-  unfolding release
-  ends-release = search rungs depth 12
+  ends-release = release-by (Ends Q reads h) t h block (ends-good Q reads h _) (ends-good Q reads h _)
 
   ends-prevent : Ends Q reads h (prevent t h block)
   unfolding prevent
-  ends-prevent = search rungs depth 12
+  ends-prevent = ends-good Q reads h _
 
 -- the two that return bytes
 module _ (Q : ℕ → Type 0) (t : Tables) (h : ℕ) (block : List ℕ) where
@@ -201,32 +173,45 @@ module _ (Q : ℕ → Type 0) (t : Tables) (h : ℕ) (block : List ℕ) where
 
   ends-sense : Ends Q true h (requestSense t h block)
   unfolding requestSense
-  ends-sense = ends-when Q true h _ _ _ (ends-check Q true h _ _ _) (ends-when Q true h _ _ _ (ends-bytes _ _) (ends-bytes _ _))
+  ends-sense = ends-when Q true h _ _ _ (ends-bytes _ _) (ends-bytes _ _)
 
   ends-listing : Ends Q true h (readStatus t h block)
   unfolding readStatus
-  ends-listing = ends-when Q true h _ _ _ (ends-check Q true h _ _ _) (ends-bytes _ _)
+  ends-listing = ends-bytes _ _
 
--- whether a block's command is one of them
+-- "Only REQUEST SENSE and READ ELEMENT STATUS with GOOD return bytes"
+abbrev pub reads : Operation → Bool
+reads TestUnitReady = false
+reads RequestSense = true
+reads Reserve = false
+reads Release = false
+reads PreventAllow = false
+reads MoveMedium = false
+reads ExchangeMedium = false
+reads ReadElementStatus = true
+reads Unknown = false
+
 abbrev pub reading : List ℕ → Bool
-reading block = anyOf (eqb (operation block) REQUEST-SENSE ∷ eqb (operation block) READ-ELEMENT-STATUS ∷ [])
+reading block = reads (operation block)
 
 module _ (Q : ℕ → Type 0) where
+  ends-act : (op : Operation) (t : Tables) (h : ℕ) (block list : List ℕ) → Ends Q (reads op) h (act op t h block list)
+  unfolding act
+  ends-act TestUnitReady t h block list = ends-good Q false h []
+  ends-act RequestSense t h block list = ends-sense Q t h block
+  ends-act Reserve t h block list = ends-reserve Q false t h block list
+  ends-act Release t h block list = ends-release Q false t h block
+  ends-act PreventAllow t h block list = ends-prevent Q false t h block
+  ends-act MoveMedium t h block list = ends-move Q false t h block
+  ends-act ExchangeMedium t h block list = ends-exchange Q false t h block
+  ends-act ReadElementStatus t h block list = ends-listing Q t h block
+  ends-act Unknown t h block list = ends-refusals Q false h t .refuses InvalidOperation
+
   ends-steps : (t : Tables) (h : ℕ) (block list : List ℕ) → Ends Q (reading block) h (steps t h block list)
   unfolding steps
   ends-steps t h block list =
-      let b = reading block in
-      let E : Verdict → Type 0 = Ends Q (reading block) h in
-      on E _ (λ _. ends-guarded Q b h t _ (ends-ready Q b t h block))
-      λ _. on E _ (λ e. rw (any-by-first _ (eqb (operation block) READ-ELEMENT-STATUS ∷ []) e) (ends-sense Q t h block))
-      λ _. on E _ (λ _. ends-guarded Q b h t _ (ends-reserve Q b t h block list))
-      λ _. on E _ (λ _. ends-attention Q b h t _ (ends-release Q b t h block))
-      λ _. on E _ (λ _. ends-guarded Q b h t _ (ends-prevent Q b t h block))
-      λ _. on E _ (λ _. ends-guarded Q b h t _ (ends-move Q b t h block))
-      λ _. on E _ (λ _. ends-guarded Q b h t _ (ends-exchange Q b t h block))
-      λ _. on E _
-      (λ e. rw (any-by-rest (eqb (operation block) REQUEST-SENSE) _ (any-by-first _ [] e)) (ends-guarded Q true h t _ (ends-listing Q t h block)))
-      λ _. ends-check Q b h 5 0x20 0x00
+      steps-by (Ends Q (reading block) h) t h (ends-refusals Q (reading block) h t) (operation block) block list
+      (λ _. ends-act (operation block) t h block list)
 
   ends-fits : (reads : Bool) (h : ℕ) (buffer : List ℕ) (v : Verdict) → Q 5 → Ends Q reads h v → Ends Q reads h (fits buffer v)
   unfolding fits
@@ -436,8 +421,8 @@ fits-silent h buffer (Prevented n g) e = refl
 fits-silent h buffer (Done s bytes cs) e = rw (e .silent refl) (rw (lib.Dec.leb·zero (length buffer)) refl)
 
 module _ (t : Tables) (h : ℕ) (block buffer : List ℕ) where
-  pub ready-fits : fits buffer (ready h block) ≡ ready h block
-  ready-fits = fits-silent h buffer _ (ends-ready _ false t h block)
+  pub good-fits : (cs : List Change) → fits buffer (good h cs) ≡ good h cs
+  good-fits cs = fits-silent h buffer _ (ends-good _ false h cs)
 
   pub move-fits : fits buffer (move t h block) ≡ move t h block
   move-fits = fits-silent h buffer _ (ends-move _ false t h block)
@@ -457,5 +442,5 @@ module _ (t : Tables) (h : ℕ) (block buffer : List ℕ) where
   pub conflict-fits : fits buffer (conflict h) ≡ conflict h
   conflict-fits = fits-silent h buffer _ (ends-conflict _ false h)
 
-  pub check-fits : (k a q : ℕ) → fits buffer (check h k a q) ≡ check h k a q
-  check-fits k a q = fits-silent h buffer _ (ends-check _ false h k a q)
+  pub refused-fits : (c : Cause) → fits buffer (refused h c) ≡ refused h c
+  refused-fits c = fits-silent h buffer _ (ends-refusals _ false h t .refuses c)

@@ -8,18 +8,21 @@ use mathlib.Core.List.{List, [], _∷_}
 use lib.Dec.{eqb}
 use borrow.Author.Tests.{eqb-false, leb-false, ne-eqb}
 use Rattle.rules.specs.Choice.{when, allOf, differ}
-use Rattle.rules.specs.Tables.{Tables, places, Change, Sense, Attention, Announce, HoldUnit, Prevent, Fill, Hold, Free, inElements, change, changes}
+use Rattle.rules.specs.Bytes.{byte}
+use Rattle.rules.specs.Tables.{Tables, places, ElementChange, NewStock, NewHolds, NewlyFree, Change, OfHead, OfElements, Announce, Fill, inElements, change, changes}
 use Rattle.rules.specs.Roster.{Slot, roster, placeOf, kindOf, port}
 use Rattle.rules.specs.Sound.{sound}
-use Rattle.rules.specs.Order.{Verdict, Number, Prevented, Done, Outcome, outcome, after, fits, good, check, conflict, volumeOf, afterAttention, afterUnit, guarded}
-use Rattle.rules.specs.Moves.{ready, noPlace, leave, carry, moveOf, move, exchangeOf, exchange}
-use Rattle.rules.specs.Holds.{faultsFrom, holdsFrom, granted, reserveUnit, reserveElements, reserve, releaseUnit, release, prevent}
+use Rattle.rules.specs.Order.{Verdict, Number, Prevented, Done, Outcome, InvalidOperation, outcome, after, fits, good, check, conflict, volumeOf}
+use Rattle.rules.specs.Operation.{Operation, TestUnitReady, RequestSense, Reserve, Release, PreventAllow, MoveMedium, ExchangeMedium, ReadElementStatus, Unknown, operation}
+use Rattle.rules.specs.Moves.{noPlace, leave, carry, moveOf, move, exchangeOf, exchange}
+use Rattle.rules.specs.Holds.{holdsFrom, granted, reserve, releaseUnit, release, prevent}
 use Rattle.rules.specs.Sense.{requestSense}
 use Rattle.rules.specs.Listing.{readStatus}
 use Rattle.rules.specs.Events.{noPort, atPort, done, importing, exporting, restartedFrom, resetting}
-use Rattle.rules.specs.Command.{Request, Call, Command, Import, Export, Reset, steps, judged, judge, verdict, bufferOf, serve}
+use Rattle.rules.specs.Command.{Request, Call, Command, Import, Export, Reset, act, steps, judged, judge, verdict, bufferOf, serve}
 use Rattle.rules.specs.Histories.{next, History, begun, called, one, times, imported, exported, imports, exports}
-use Rattle.rules.proofs.Ladder.{on, either, when-true, when-false, any-first, any-rest, all-cons, all-nil, ne-differ, differ-false}
+use Rattle.rules.proofs.Ladder.{on, either, when-true, when-false, all-cons, all-nil, ne-differ, differ-false, never}
+use Rattle.rules.proofs.Walks.{Refusals, Moving, Exchanging, telling, refused-by, steps-by, move-by, exchange-by, reserve-by, release-by}
 use Rattle.rules.proofs.Places.{place-in, place-apart}
 use Rattle.rules.proofs.ElementFields.{volume-alone, held-length, held-alone, freed-length, freed-alone}
 use Rattle.rules.proofs.Soundness.{Sound, sound-true, places-is}
@@ -29,32 +32,29 @@ use Rattle.rules.proofs.Sequences.{leaves-next, next-sound}
 
 -- ---- changes that fill no element keep every volume
 
+abbrev StillElements : ElementChange → Type 0
+StillElements (NewStock p v s m) = ⊥
+StillElements (NewHolds p n h i) = Unit {0}
+StillElements (NewlyFree w) = Unit {0}
+
 abbrev Still : Change → Type 0
-Still (Sense h k a q) = Unit {0}
-Still (Attention h a q) = Unit {0}
-Still (Announce a q) = Unit {0}
-Still (HoldUnit h) = Unit {0}
-Still (Prevent m) = Unit {0}
-Still (Fill p v s m) = ⊥
-Still (Hold p n h i) = Unit {0}
-Still (Free w) = Unit {0}
+Still (OfHead c) = Unit {0}
+Still (OfElements c) = StillElements c
 
 abbrev AllStill : List Change → Type 0
 AllStill [] = Unit {0}
 AllStill (c ∷ cs) = Still c × AllStill cs
 
+still-elements : (w : ℕ) (c : ElementChange) (es : List ℕ) → StillElements c → standing w (inElements c es) ≡ standing w es
+unfolding inElements
+still-elements w (NewStock p v o m) es s = absurd s
+still-elements w (NewHolds p n h i) es s = total-same w es _ (held-length es p n h i) (λ q. volume-alone es _ (held-alone es p n h i) q)
+still-elements w (NewlyFree x) es s = total-same w es _ (freed-length x es) (λ q. volume-alone es _ (freed-alone x es) q)
+
 still-standing : (w : ℕ) (c : Change) (t : Tables) → Still c → standing w (change c t .elements) ≡ standing w (t .elements)
-unfolding change inElements
-still-standing w (Sense h k a q) t s = refl
-still-standing w (Attention h a q) t s = refl
-still-standing w (Announce a q) t s = refl
-still-standing w (HoldUnit h) t s = refl
-still-standing w (Prevent m) t s = refl
-still-standing w (Fill p v o m) t s = absurd s
-still-standing w (Hold p n h i) t s =
-    let es = t .elements in
-    total-same w es _ (held-length es p n h i) (λ q. volume-alone es _ (held-alone es p n h i) q)
-still-standing w (Free x) t s = let es = t .elements in total-same w es _ (freed-length x es) (λ q. volume-alone es _ (freed-alone x es) q)
+unfolding change
+still-standing w (OfHead c) t s = refl
+still-standing w (OfElements c) t s = still-elements w c (t .elements) s
 
 all-still-standing : (w : ℕ) (cs : List Change) (t : Tables) → AllStill cs → standing w (changes cs t .elements) ≡ standing w (t .elements)
 unfolding changes
@@ -82,38 +82,17 @@ module _ (w : ℕ) (t : Tables) where
   abbrev Even : Verdict → Type 0
   Even = Balance w t 0 0
 
-  even-when : (b : Bool) (x y : Verdict) → Even x → Even y → Even (when b x y)
-  unfolding when
-  even-when true x y e f = e
-  even-when false x y e f = f
-
   even-still : (cs : List Change) → AllStill cs → standing w (changes cs t .elements) + 0 ≡ standing w (t .elements) + 0
   even-still cs s = let e = all-still-standing w cs t s in omega arith
-
-  even-check : (h k a q : ℕ) → Even (check h k a q)
-  unfolding check
-  even-check h k a q = even-still _ (tt, tt)
-
-  even-conflict : (h : ℕ) → Even (conflict h)
-  unfolding conflict
-  even-conflict h = even-still _ (tt, tt)
 
   even-good : (h : ℕ) (cs : List Change) → AllStill cs → Even (good h cs)
   unfolding good
   even-good h cs s = even-still _ (tt, s)
 
-  even-attention : (h : ℕ) (v : Verdict) → Even v → Even (afterAttention t h v)
-  unfolding afterAttention
-  even-attention h v e = even-when _ _ _ e (even-still _ (tt, (tt, tt)))
-
-  even-guarded : (h : ℕ) (v : Verdict) → Even v → Even (guarded t h v)
-  unfolding guarded afterUnit
-  even-guarded h v e = even-attention h _ (even-when _ _ _ (even-conflict h) e)
-
-  even-faults : (ss : List Slot) (h : ℕ) (list : List ℕ) (n k : ℕ) (v : Verdict) → Even v → Even (faultsFrom ss h list n k v)
-  unfolding faultsFrom
-  even-faults ss h list zero k v e = e
-  even-faults ss h list (suc n) k v e = even-when _ _ _ (even-check h _ _ _) (even-when _ _ _ (even-check h _ _ _) (even-faults ss h list n (suc k) v e))
+  even-refusals : (h : ℕ) → Refusals Even t h
+  unfolding check conflict telling
+  even-refusals h =
+      record { refuses = refused-by Even h (λ a q. even-still _ (tt, tt)); conflicts = even-still _ (tt, tt); tells = even-still _ (tt, (tt, tt)) }
 
   even-granted : (ss : List Slot) (h i : ℕ) (list : List ℕ) → Even (good h (granted ss h i list))
   unfolding granted
@@ -123,32 +102,25 @@ module _ (w : ℕ) (t : Tables) where
   unfolding releaseUnit
   even-releaseUnit h = even-good h _ (on AllStill _ (λ _. (tt, (tt, tt))) (λ _. (tt, tt)))
 
-ruleset evens = (even-when, even-check, even-conflict, even-still, even-good, even-faults, even-granted, even-releaseUnit)
-
 module _ (w : ℕ) (t : Tables) (h : ℕ) (block : List ℕ) where
-  even-ready : Even w t (ready h block)
-  unfolding ready
-  even-ready = search evens depth 12
-
   even-sense : Even w t (requestSense t h block)
   unfolding requestSense
-  even-sense = search evens depth 12
+  even-sense = on (Even w t) _ (λ _. even-still w t _ (tt, tt)) (λ _. even-still w t _ (tt, tt))
 
   even-listing : Even w t (readStatus t h block)
   unfolding readStatus
-  even-listing = search evens depth 12
+  even-listing = even-still w t _ (tt, tt)
 
   even-prevent : Even w t (prevent t h block)
   unfolding prevent
-  even-prevent = search evens depth 12
+  even-prevent = even-good w t h _ (tt, tt)
 
   even-reserve : (list : List ℕ) → Even w t (reserve t h block list)
-  unfolding reserve reserveUnit reserveElements
-  even-reserve list = search evens depth 12
+  even-reserve list =
+      reserve-by (Even w t) t h (even-refusals w t h) block list (λ _. even-good w t h _ (tt, tt)) (even-granted w t (roster (t .head)) h (byte block 2) list)
 
   even-release : Even w t (release t h block)
-  unfolding release
-  even-release = search evens depth 12
+  even-release = release-by (Even w t) t h block (even-releaseUnit w t h) (even-good w t h _ (tt, tt))
 
 -- ---- MOVE and EXCHANGE
 
@@ -161,38 +133,18 @@ module _ (w : ℕ) (z : w ≢ 0) (t : Tables) (s : Sound t) (h : ℕ) where
   inside : (a : ℕ) → Stands (roster (t .head)) a → placeOf (roster (t .head)) a < places (t .elements)
   inside a x = rw (places-is t s) (x .inside)
 
-  even-moveOf : (block : List ℕ) (arm from to : ℕ) → Even w t (moveOf t h block arm from to)
-  unfolding moveOf
-  even-moveOf block arm from to =
-      on (Even w t) _ (λ _. even-check w t _ _ _ _)
-      λ _. on (Even w t) _ (λ _. even-check w t _ _ _ _)
-      λ e. on (Even w t) _ (λ _. even-conflict w t h)
-      λ _. on (Even w t) _ (λ _. even-check w t _ _ _ _)
-      λ _. on (Even w t) _ (λ _. even-check w t _ _ _ _)
-      λ d.
-      let e₁ = any-rest _ _ e in
-      moved (stands from (any-first _ _ e₁)) (stands to (any-first _ _ (any-rest _ _ e₁))) (differ-false _ _ d)
+  even-moveOf : (arm from to : ℕ) → Even w t (moveOf t h arm from to)
+  even-moveOf arm from to = move-by (Even w t) t h (even-refusals w t h) arm from to moved
     where
-      moved : Stands (roster (t .head)) from → Stands (roster (t .head)) to → volumeOf t to ≡ 0
-          → Even w t (good h (leave t from ∷ carry t from to ∷ []))
-      moved x y e =
+      moved : Moving t from to → Even w t (good h (leave t from ∷ carry t from to ∷ []))
+      moved x =
           unfold good leave carry volumeOf changes change inElements in
-          let m = moved-count w z (t .elements) _ _ from (inside from x) (inside to y) e in omega arith
+          let m = moved-count w z (t .elements) _ _ from (inside from (stands from (x .from-stands))) (inside to (stands to (x .to-stands)))
+          (differ-false _ _ (x .to-empty)) in
+          omega arith
 
-  even-exchangeOf : (block : List ℕ) (arm from first second : ℕ) → Even w t (exchangeOf t h block arm from first second)
-  unfolding exchangeOf
-  even-exchangeOf block arm from first second =
-      on (Even w t) _ (λ _. even-check w t _ _ _ _)
-      λ _. on (Even w t) _ (λ _. even-check w t _ _ _ _)
-      λ e. on (Even w t) _ (λ _. even-conflict w t h)
-      λ _. on (Even w t) _ (λ _. even-check w t _ _ _ _)
-      λ f. on (Even w t) _ (λ _. even-check w t _ _ _ _)
-      λ d.
-      let e₁ = any-rest _ _ e in
-      let e₂ = any-rest _ _ e₁ in
-      let e₃ = any-rest _ _ e₂ in
-      exchanged (stands from (any-first _ _ e₁)) (stands first (any-first _ _ e₂)) (stands second (any-first _ _ e₃))
-      (eqb-false _ _ (any-first _ _ (any-rest _ _ e₃))) (eqb-false _ _ (any-first _ _ (any-rest _ _ f))) d
+  even-exchangeOf : (arm from first second : ℕ) → Even w t (exchangeOf t h arm from first second)
+  even-exchangeOf arm from first second = exchange-by (Even w t) t h (even-refusals w t h) arm from first second exchanged
     where
       ss : List Slot
       ss = roster (t .head)
@@ -201,33 +153,38 @@ module _ (w : ℕ) (z : w ≢ 0) (t : Tables) (s : Sound t) (h : ℕ) where
       vacant : allOf (differ (volumeOf t second) 0 ∷ differ second from ∷ []) ≡ false → second ≢ from → volumeOf t second ≡ 0
       vacant d n =
           either (volumeOf t second) 0 (λ e. e)
-          (λ v.
-          let x = all-cons _ _ (ne-differ _ 0 v) (all-cons _ _ (ne-differ second from n) all-nil) in
-          let y : _≡_ {A = ℕ} 0 1 = cc in
-          absurd (omega arith))
+          (λ v. absurd (never (sym d ∙ all-cons _ _ (ne-differ _ 0 v) (all-cons _ _ (ne-differ second from n) all-nil))))
 
-      exchanged : Stands ss from → Stands ss first → Stands ss second → first ≢ from → volumeOf t first ≢ 0
-          → allOf (differ (volumeOf t second) 0 ∷ differ second from ∷ []) ≡ false
-          → Even w t (good h (leave t from ∷ leave t first ∷ carry t first second ∷ carry t from first ∷ []))
-      exchanged x y k n v d =
+      exchanged : Exchanging t from first second → Even w t (good h (leave t from ∷ leave t first ∷ carry t first second ∷ carry t from first ∷ []))
+      exchanged e =
           unfold good leave carry volumeOf changes change inElements in
-          let apart : second ≢ first = λ e. v (rw e at (vacant d (λ i. n (sym e ∙ i)))) in
+          let x = stands from (e .from-stands) in
+          let y = stands first (e .first-stands) in
+          let k = stands second (e .second-stands) in
+          let n : first ≢ from = eqb-false _ _ (e .apart) in
+          let v : volumeOf t first ≢ 0 = eqb-false _ _ (e .first-full) in
+          let d = e .second-empty in
+          let apart : second ≢ first = λ i. v (rw i at (vacant d (λ j. n (sym i ∙ j)))) in
           let m = exchanged-count w z (t .elements) (placeOf ss from) (placeOf ss first) (placeOf ss second) first from (inside from x) (inside first y) (inside second k)
           (place-apart ss first from n (x .is-known)) (place-apart ss second first apart (y .is-known))
           (λ i. vacant d (λ j. i (ap (placeOf ss) j))) in
           omega arith
 
+  even-act : (op : Operation) (block list : List ℕ) → Even w t (act op t h block list)
+  unfolding act move exchange
+  even-act TestUnitReady block list = even-good w t h [] tt
+  even-act RequestSense block list = even-sense w t h block
+  even-act Reserve block list = even-reserve w t h block list
+  even-act Release block list = even-release w t h block
+  even-act PreventAllow block list = even-prevent w t h block
+  even-act MoveMedium block list = even-moveOf _ _ _
+  even-act ExchangeMedium block list = even-exchangeOf _ _ _ _
+  even-act ReadElementStatus block list = even-listing w t h block
+  even-act Unknown block list = even-refusals w t h .refuses InvalidOperation
+
   even-steps : (block list : List ℕ) → Even w t (steps t h block list)
-  unfolding steps move exchange
-  even-steps block list =
-      on (Even w t) _ (λ _. even-guarded w t h _ (even-ready w t h block))
-      λ _. on (Even w t) _ (λ _. even-sense w t h block)
-      λ _. on (Even w t) _ (λ _. even-guarded w t h _ (even-reserve w t h block list))
-      λ _. on (Even w t) _ (λ _. even-attention w t h _ (even-release w t h block))
-      λ _. on (Even w t) _ (λ _. even-guarded w t h _ (even-prevent w t h block))
-      λ _. on (Even w t) _ (λ _. even-guarded w t h _ (even-moveOf block _ _ _))
-      λ _. on (Even w t) _ (λ _. even-guarded w t h _ (even-exchangeOf block _ _ _ _))
-      λ _. on (Even w t) _ (λ _. even-guarded w t h _ (even-listing w t h block)) λ _. even-check w t _ _ _ _
+  unfolding steps
+  even-steps block list = steps-by (Even w t) t h (even-refusals w t h) (operation block) block list (λ _. even-act (operation block) block list)
 
 even-fits : (w : ℕ) (t : Tables) (buffer : List ℕ) (v : Verdict) → Even w t v → Even w t (fits buffer v)
 unfolding fits

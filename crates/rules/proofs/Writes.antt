@@ -1,13 +1,13 @@
 -- Laws of `put`: what a write leaves as it was, what it puts there, and writes that may change places. Assumes nothing.
-use Prim.Native.Nat.{ℕ, zero, suc, _+_, _*_, _<_, _≤_}
+use Prim.Native.Nat.{ℕ, zero, suc, _+_, _<_, _≤_, min}
 use native.Mathlib.Omega.{arith}
 use native.Mathlib.Nat.{not-suc-le-zero}
-use mathlib.Core.Path.{_≡_, refl, sym, ap, _∙_}
+use mathlib.Core.Path.{_≡_, refl, ap, _∙_}
 use mathlib.Core.Logic.{_≢_}
 use mathlib.Core.List.{List, [], _∷_}
 use lib.ListN.{length, getD, set, length-set}
 use lib.Seq.{sets, length-sets, getD-set-other, getD-set-same, set-comm, set-set}
-use Rattle.rules.specs.Bytes.{byte, word, put}
+use Rattle.rules.specs.Bytes.{byte, put, cut}
 
 pub put-length : (xs : List ℕ) (i : ℕ) (bs : List ℕ) → length (put xs i bs) ≡ length xs
 unfolding put
@@ -26,10 +26,6 @@ getD-sets-other (b ∷ bs) xs i j d =
 pub byte-put : (xs : List ℕ) (i j : ℕ) (bs : List ℕ) → ((k : ℕ) → k < length bs → i + k ≢ j) → byte (put xs i bs) j ≡ byte xs j
 unfolding byte put
 byte-put xs i j bs d = getD-sets-other bs xs i j d
-
-pub word-put : (xs : List ℕ) (i j : ℕ) (bs : List ℕ) → ((k : ℕ) → k < length bs → (i + k ≢ j) × (i + k ≢ j + 1)) → word (put xs i bs) j ≡ word xs j
-unfolding word
-word-put xs i j bs d = cc (byte-put xs i j bs (λ k h. d k h .0), byte-put xs i (j + 1) bs (λ k h. d k h .1))
 
 set-sets : (bs xs : List ℕ) (i j a : ℕ) → ((l : ℕ) → l < length bs → i ≢ j + l) → set (sets xs j bs) i a ≡ sets (set xs i a) j bs
 set-sets [] xs i j a d = refl
@@ -70,7 +66,19 @@ sets-again (c ∷ cs) (b ∷ bs) xs i e =
     ∙ sets-again cs bs (set (set xs i c) i b) (suc i) (omega arith)
     ∙ ap (λ (r : List ℕ). sets r (suc i) bs) (set-set xs i c b)
 
--- what is overwritten whole is forgotten
-pub put-again : (xs : List ℕ) (i : ℕ) (cs bs : List ℕ) → length cs ≡ length bs → put (put xs i cs) i bs ≡ put xs i bs
-unfolding put
-put-again xs i cs bs e = sets-again cs bs xs i e
+-- ---- answers cut at the allocation
+
+-- "the first min(allocation, n) bytes"
+pub cut-length : (allocation : ℕ) (whole : List ℕ) → length (cut allocation whole) ≡ min allocation (length whole)
+unfolding cut
+cut-length zero whole = omega arith
+cut-length (suc n) [] = omega arith
+cut-length (suc n) (x ∷ xs) = omega (arith, cut-length n xs)
+
+-- the bytes that are there are cut as by the allocation
+pub cut-least : (allocation : ℕ) (whole : List ℕ) → cut (min allocation (length whole)) whole ≡ cut allocation whole
+unfolding cut
+cut-least zero whole = let e : min 0 (length whole) ≡ 0 = omega arith in rw e refl
+cut-least (suc n) [] = let e : min (suc n) 0 ≡ 0 = omega arith in rw e refl
+cut-least (suc n) (x ∷ xs) =
+    let e : min (suc n) (suc (length xs)) ≡ suc (min n (length xs)) = omega arith in rw e (ap (λ (ys : List ℕ). x ∷ ys) (cut-least n xs))

@@ -1,7 +1,7 @@
 -- Bytes of a table: "fields are high byte first". Assumes nothing.
 use Prim.Native.Nat.{ℕ, _+_, _*_, _/_, _%_}
 use mathlib.Core.List.{List, [], _∷_}
-use lib.ListN.{getD}
+use lib.ListN.{getD, take}
 use lib.Seq.{sets}
 
 unfoldable pub byte : List ℕ → ℕ → ℕ
@@ -27,3 +27,7 @@ three n = n / 65536 ∷ n / 256 % 256 ∷ n % 256 ∷ []
 -- the bytes from index i on overwritten: the one way a table or a buffer changes
 unfoldable pub put : List ℕ → ℕ → List ℕ → List ℕ
 put xs i bytes = sets xs i bytes
+
+-- an answer cut at the allocation: "the first min(allocation, n) bytes" of its n
+unfoldable pub cut : ℕ → List ℕ → List ℕ
+cut allocation whole = take allocation whole

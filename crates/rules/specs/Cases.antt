@@ -7,7 +7,7 @@ use lib.ListN.{replicate, take}
 use lib.Dec.{eqb}
 use Rattle.rules.specs.Choice.{when, allOf}
 use Rattle.rules.specs.Bytes.{high, low}
-use Rattle.rules.specs.Tables.{Tables, Rest}
+use Rattle.rules.specs.Tables.{Tables, row}
 use Rattle.rules.specs.Order.{Outcome}
 use Rattle.rules.specs.Command.{Call, Import, Export, Reset, serve}
 use Rattle.rules.specs.Small.{quiet, senses, awaits, headOf, element, empty, loaded, elementsOf, library, quietHead, smallElements, small, moveBlock, exchangeBlock, readBlock, reserveBlock, naming, sends, asks, lentBuffer, ends, checks, refuses}
@@ -340,8 +340,11 @@ same [] (y ∷ ys) = false
 same (x ∷ xs) [] = false
 same (x ∷ xs) (y ∷ ys) = when (eqb x y) (same xs ys) false
 
-unfoldable pub sameRest : Rest → Rest → Bool
-sameRest r s = allOf (same (r .tags) (s .tags) ∷ same (r .blank) (s .blank) ∷ [])
+unfoldable pub sameAll : List (List ℕ) → List (List ℕ) → Bool
+sameAll [] [] = true
+sameAll [] (y ∷ ys) = false
+sameAll (x ∷ xs) [] = false
+sameAll (x ∷ xs) (y ∷ ys) = allOf (same x y ∷ sameAll xs ys ∷ [])
 
 unfoldable pub sameOutcome : Outcome → Outcome → Bool
 sameOutcome o p =
@@ -353,7 +356,7 @@ sameOutcome o p =
     ∷ eqb (o .lowest) (p .lowest)
     ∷ same (o .tables .head) (p .tables .head)
     ∷ same (o .tables .elements) (p .tables .elements)
-    ∷ sameRest (o .tables .rest) (p .tables .rest)
+    ∷ sameAll (row (o .tables .rest)) (row (p .tables .rest))
     ∷ same (o .buffer) (p .buffer)
     ∷ [])
 

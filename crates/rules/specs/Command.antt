@@ -3,16 +3,18 @@ use Prim.Native.Nat.{ℕ, _/_}
 use mathlib.Core.List.{List, [], _∷_}
 use mathlib.Core.Bool.{Bool, true, false}
 use lib.ListN.{length}
-use lib.Dec.{eqb, leb}
-use Rattle.rules.specs.Choice.{when, anyOf, allOf}
+use lib.Dec.{eqb}
+use Rattle.rules.specs.Choice.{when, anyOf}
 use Rattle.rules.specs.Bytes.{byte, word}
 use Rattle.rules.specs.Tables.{Tables, hosts}
 use Rattle.rules.specs.Sound.{sound, within}
-use Rattle.rules.specs.Order.{Verdict, Number, Outcome, outcome, fits, check, afterAttention, guarded}
-use Rattle.rules.specs.Moves.{ready, move, exchange}
+use Rattle.rules.specs.Operation.{Operation, TestUnitReady, RequestSense, Reserve, Release, PreventAllow, MoveMedium, ExchangeMedium, ReadElementStatus, Unknown, operation}
+use Rattle.rules.specs.Order.{Verdict, Number, Outcome, InvalidOperation, outcome, fits, good, refused, afterAttention, guarded}
+use Rattle.rules.specs.Moves.{move, exchange}
 use Rattle.rules.specs.Holds.{reserve, release, prevent}
 use Rattle.rules.specs.Sense.{requestSense}
 use Rattle.rules.specs.Listing.{readStatus}
+use Rattle.rules.specs.Form.{formed}
 use Rattle.rules.specs.Events.{importing, exporting, resetting}
 
 -- what a command is called with, beside the tables
@@ -22,61 +24,38 @@ pub record Request : Type 0 where
   pub parameters : List ℕ
   pub buffer : List ℕ
 
--- the first byte
-abbrev pub operation : List ℕ → ℕ
-operation block = byte block 0
+-- from step 5 on
+unfoldable pub act : Operation → Tables → ℕ → List ℕ → List ℕ → Verdict
+-- "TEST UNIT READY: GOOD."
+act TestUnitReady t h block list = good h []
+act RequestSense t h block list = requestSense t h block
+act Reserve t h block list = reserve t h block list
+act Release t h block list = release t h block
+act PreventAllow t h block list = prevent t h block
+act MoveMedium t h block list = move t h block
+act ExchangeMedium t h block list = exchange t h block
+act ReadElementStatus t h block list = readStatus t h block
+-- "1. Other first byte: 5/20/00."
+act Unknown t h block list = refused h InvalidOperation
 
--- ---- the eight commands
+-- steps 1 to 3, then the rest: an other first byte meets neither step 2 nor step 3; "2. .. not REQUEST SENSE"; "3. .. never for RELEASE, REQUEST SENSE"
+unfoldable pub admitted : Operation → Tables → ℕ → Verdict → Verdict
+admitted TestUnitReady t h rest = guarded t h rest
+admitted RequestSense t h rest = rest
+admitted Reserve t h rest = guarded t h rest
+admitted Release t h rest = afterAttention t h rest
+admitted PreventAllow t h rest = guarded t h rest
+admitted MoveMedium t h rest = guarded t h rest
+admitted ExchangeMedium t h rest = guarded t h rest
+admitted ReadElementStatus t h rest = guarded t h rest
+admitted Unknown t h rest = rest
 
-abbrev pub TEST-UNIT-READY : ℕ
-TEST-UNIT-READY = 0x00
+-- steps 1 to 8
+unfoldable pub stepsOf : Operation → Tables → ℕ → List ℕ → List ℕ → Verdict
+stepsOf op t h block list = admitted op t h (formed op h block list (act op t h block list))
 
-abbrev pub REQUEST-SENSE : ℕ
-REQUEST-SENSE = 0x03
-
-abbrev pub RESERVE : ℕ
-RESERVE = 0x16
-
-abbrev pub RELEASE : ℕ
-RELEASE = 0x17
-
-abbrev pub PREVENT-ALLOW : ℕ
-PREVENT-ALLOW = 0x1E
-
-abbrev pub MOVE-MEDIUM : ℕ
-MOVE-MEDIUM = 0xA5
-
-abbrev pub EXCHANGE-MEDIUM : ℕ
-EXCHANGE-MEDIUM = 0xA6
-
-abbrev pub READ-ELEMENT-STATUS : ℕ
-READ-ELEMENT-STATUS = 0xB8
-
-unfoldable pub known : ℕ → Bool
-known op =
-    anyOf
-    (eqb op TEST-UNIT-READY
-    ∷ eqb op REQUEST-SENSE
-    ∷ eqb op RESERVE
-    ∷ eqb op RELEASE
-    ∷ eqb op PREVENT-ALLOW
-    ∷ eqb op MOVE-MEDIUM
-    ∷ eqb op EXCHANGE-MEDIUM
-    ∷ eqb op READ-ELEMENT-STATUS
-    ∷ [])
-
--- steps 1 to 8: "1. Other first byte: 5/20/00."
 unfoldable pub steps : Tables → ℕ → List ℕ → List ℕ → Verdict
-steps t h block parameters =
-    when (eqb (operation block) TEST-UNIT-READY) (guarded t h (ready h block))
-    (when (eqb (operation block) REQUEST-SENSE) (requestSense t h block)
-    (when (eqb (operation block) RESERVE) (guarded t h (reserve t h block parameters))
-    (when (eqb (operation block) RELEASE) (afterAttention t h (release t h block))
-    (when (eqb (operation block) PREVENT-ALLOW) (guarded t h (prevent t h block))
-    (when (eqb (operation block) MOVE-MEDIUM) (guarded t h (move t h block))
-    (when (eqb (operation block) EXCHANGE-MEDIUM) (guarded t h (exchange t h block))
-    (when (eqb (operation block) READ-ELEMENT-STATUS) (guarded t h (readStatus t h block))
-    (check h 5 0x20 0x00))))))))
+steps t h block list = stepsOf (operation block) t h block list
 
 -- ---- house numbers 2 to 4
 
@@ -90,13 +69,22 @@ groupFits group n =
 
 -- number 3: "command block empty or of wrong length"
 unfoldable pub blockFits : List ℕ → Bool
-blockFits block = when (eqb (length block) 0) false (groupFits (operation block / 32) (length block))
+blockFits block = when (eqb (length block) 0) false (groupFits (byte block 0 / 32) (length block))
 
--- number 4: "for RESERVE not as many as bytes 3-4 say; for any other known command not none"
+-- number 4: "for RESERVE not as many as bytes 3-4 say; for any other known command not none": how many are wanted
+unfoldable pub wanted : Operation → List ℕ → ℕ → Bool
+wanted TestUnitReady block n = eqb n 0
+wanted RequestSense block n = eqb n 0
+wanted Reserve block n = eqb n (word block 3)
+wanted Release block n = eqb n 0
+wanted PreventAllow block n = eqb n 0
+wanted MoveMedium block n = eqb n 0
+wanted ExchangeMedium block n = eqb n 0
+wanted ReadElementStatus block n = eqb n 0
+wanted Unknown block n = true
+
 unfoldable pub parametersFit : List ℕ → List ℕ → Bool
-parametersFit block parameters =
-    when (eqb (operation block) RESERVE) (eqb (length parameters) (word block 3))
-    (when (known (operation block)) (eqb (length parameters) 0) true)
+parametersFit block parameters = wanted (operation block) block (length parameters)
 
 -- all but number 1
 unfoldable pub judged : Tables → Request → Verdict

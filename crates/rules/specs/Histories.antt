@@ -3,13 +3,14 @@
 use Prim.Native.Nat.{ℕ, zero, suc, _+_}
 use mathlib.Core.Path.{_≡_}
 use mathlib.Core.List.{List, [], _∷_, List·Memᴰ}
-use mathlib.Core.Bool.{Bool, true}
+use mathlib.Core.Bool.{Bool, true, false}
 use lib.Dec.{eqb}
-use Rattle.rules.specs.Choice.{when, anyOf}
-use Rattle.rules.specs.Bytes.{byte, word}
+use Rattle.rules.specs.Choice.{when}
+use Rattle.rules.specs.Bytes.{word}
 use Rattle.rules.specs.Tables.{Tables, volume}
 use Rattle.rules.specs.Order.{Outcome, after, volumeOf}
-use Rattle.rules.specs.Command.{Request, Call, Command, Import, Export, Reset, verdict, serve, operation, TEST-UNIT-READY, REQUEST-SENSE, MOVE-MEDIUM, EXCHANGE-MEDIUM}
+use Rattle.rules.specs.Command.{Request, Call, Command, Import, Export, Reset, verdict, serve}
+use Rattle.rules.specs.Operation.{Operation, TestUnitReady, RequestSense, Reserve, Release, PreventAllow, MoveMedium, ExchangeMedium, ReadElementStatus, Unknown, operation}
 
 -- ---- calls one after the other, by the rules
 
@@ -96,20 +97,34 @@ pub data Mixing : List Request → List Request → List Request → Type 0 wher
   right : {y : Request} {xs ys zs : List Request} → Mixing xs ys zs → Mixing xs (y ∷ ys) (y ∷ zs)
 
 -- "moves, exchanges, readiness tests and sense requests"
+unfoldable pub joins : Operation → Bool
+joins TestUnitReady = true
+joins RequestSense = true
+joins Reserve = false
+joins Release = false
+joins PreventAllow = false
+joins MoveMedium = true
+joins ExchangeMedium = true
+joins ReadElementStatus = false
+joins Unknown = false
+
 unfoldable pub mixes : List ℕ → Bool
-mixes block =
-    anyOf
-    (eqb (operation block) TEST-UNIT-READY
-    ∷ eqb (operation block) REQUEST-SENSE
-    ∷ eqb (operation block) MOVE-MEDIUM
-    ∷ eqb (operation block) EXCHANGE-MEDIUM
-    ∷ [])
+mixes block = joins (operation block)
 
 -- the source and destination addresses that a block names
+unfoldable pub namedBy : Operation → List ℕ → List ℕ
+namedBy TestUnitReady block = []
+namedBy RequestSense block = []
+namedBy Reserve block = []
+namedBy Release block = []
+namedBy PreventAllow block = []
+namedBy MoveMedium block = word block 4 ∷ word block 6 ∷ []
+namedBy ExchangeMedium block = word block 4 ∷ word block 6 ∷ word block 8 ∷ []
+namedBy ReadElementStatus block = []
+namedBy Unknown block = []
+
 unfoldable pub named : List ℕ → List ℕ
-named block =
-    when (eqb (operation block) MOVE-MEDIUM) (word block 4 ∷ word block 6 ∷ [])
-    (when (eqb (operation block) EXCHANGE-MEDIUM) (word block 4 ∷ word block 6 ∷ word block 8 ∷ []) [])
+named block = namedBy (operation block) block
 
 -- each request is host h's, and one of the four commands
 pub data From (h : ℕ) : List Request → Type 0 where

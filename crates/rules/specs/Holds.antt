@@ -1,22 +1,16 @@
--- RESERVE, RELEASE and PREVENT ALLOW, from step 4 on. Assumes nothing.
+-- RESERVE, RELEASE and PREVENT ALLOW, from step 5 on. Assumes nothing.
 use Prim.Native.Nat.{ℕ, zero, suc, _+_, _*_, _-_, _/_, _%_}
 use mathlib.Core.List.{List, [], _∷_}
-use mathlib.Core.Bool.{Bool, true, false}
+use mathlib.Core.Bool.{Bool}
 use lib.ListN.{length}
-use lib.Dec.{eqb, leb, ltb}
+use lib.Dec.{eqb, ltb}
 use Rattle.rules.specs.Choice.{when, anyOf, allOf, differ, anyFrom}
 use Rattle.rules.specs.Bytes.{byte, word}
-use Rattle.rules.specs.Tables.{Tables, places, unit, mask, holder, id, allowing, preventing, Change, HoldUnit, Prevent, Hold, Free, Under, Every}
+use Rattle.rules.specs.Tables.{Tables, descriptorSize, mostDescriptors, places, unit, mask, holder, id, allowing, preventing, Change, HoldUnit, Prevent, Hold, Free, Under, Every}
 use Rattle.rules.specs.Roster.{Slot, roster, placeOf, kindOf}
-use Rattle.rules.specs.Order.{Verdict, good, check, conflict, other, stray}
+use Rattle.rules.specs.Order.{Verdict, ListLength, ListField, WrongAddress, good, refused, conflict, other}
 
 -- ---- the block: "byte 1 bit 0 Element, bits 1-4 third party, byte 2 id"
-
-unfoldable pub reserveMasks : List ℕ
-reserveMasks = 0x1E ∷ 0x00 ∷ 0x00 ∷ 0x00 ∷ 0xFF ∷ []
-
-unfoldable pub releaseMasks : List ℕ
-releaseMasks = 0x1E ∷ 0x00 ∷ 0xFF ∷ 0xFF ∷ 0xFF ∷ []
 
 -- Element is 0: the unit
 unfoldable pub ofUnit : List ℕ → Bool
@@ -24,15 +18,12 @@ ofUnit block = eqb (byte block 1 % 2) 0
 
 -- ---- the list: "1 to 32 descriptors of 6 bytes: two zero bytes, number n, address"
 
-abbrev pub descriptorSize : ℕ
-descriptorSize = 6
-
 -- how many descriptors a list holds
 unfoldable pub descriptors : List ℕ → ℕ
 descriptors list = length list / descriptorSize
 
 unfoldable pub wrongListLength : List ℕ → Bool
-wrongListLength list = anyOf (eqb (length list) 0 ∷ ltb (32 * descriptorSize) (length list) ∷ differ (length list % descriptorSize) 0 ∷ [])
+wrongListLength list = anyOf (eqb (length list) 0 ∷ ltb (mostDescriptors * descriptorSize) (length list) ∷ differ (length list % descriptorSize) 0 ∷ [])
 
 -- of the k-th descriptor, from 0
 unfoldable pub reservedBytes : List ℕ → ℕ → ℕ
@@ -75,8 +66,8 @@ wrongAddress ss list k = anyOf (unknown ss list k ∷ tooMany ss list k ∷ name
 unfoldable pub faultsFrom : List Slot → ℕ → List ℕ → ℕ → ℕ → Verdict → Verdict
 faultsFrom ss h list zero k rest = rest
 faultsFrom ss h list (suc n) k rest =
-    when (differ (reservedBytes list k) 0) (check h 5 0x26 0x00)
-    (when (wrongAddress ss list k) (check h 5 0x21 0x01) (faultsFrom ss h list n (suc k) rest))
+    when (differ (reservedBytes list k) 0) (refused h ListField)
+    (when (wrongAddress ss list k) (refused h WrongAddress) (faultsFrom ss h list n (suc k) rest))
 
 -- "An element held by another host, or by this host under another id, gives 18h."
 unfoldable pub taken : List ℕ → ℕ → ℕ → ℕ → Bool
@@ -108,17 +99,13 @@ reserveUnit t h =
 
 unfoldable pub reserveElements : Tables → ℕ → ℕ → List ℕ → Verdict
 reserveElements t h i list =
-    when (wrongListLength list) (check h 5 0x1A 0x00)
+    when (wrongListLength list) (refused h ListLength)
     (faultsFrom (roster (t .head)) h list (descriptors list) 0
     (when (conflicts (roster (t .head)) (t .elements) h i list) (conflict h) (good h (granted (roster (t .head)) h i list))))
 
--- "Element 0: list length must be 0 (else 5/24/00), id ignored". House number 4 has seen to it that the list is as long as bytes 3-4 say.
+-- "Element 0: .. id ignored": that its list is empty is judged in step 4
 unfoldable pub reserve : Tables → ℕ → List ℕ → List ℕ → Verdict
-reserve t h block list =
-    when (stray reserveMasks block) (check h 5 0x24 0x00)
-    (when (ofUnit block)
-    (when (differ (length list) 0) (check h 5 0x24 0x00) (reserveUnit t h))
-    (reserveElements t h (byte block 2) list))
+reserve t h block list = when (ofUnit block) (reserveUnit t h) (reserveElements t h (byte block 2) list)
 
 -- ---- RELEASE: "bytes 1 and 2 as RESERVE .. Holding nothing is GOOD."
 
@@ -128,18 +115,12 @@ releaseUnit t h = when (eqb (unit (t .head)) h) (HoldUnit 0 ∷ Free (Every h) �
 
 -- "Element 1 frees those of the id."
 unfoldable pub release : Tables → ℕ → List ℕ → Verdict
-release t h block =
-    when (stray releaseMasks block) (check h 5 0x24 0x00)
-    (when (ofUnit block) (good h (releaseUnit t h)) (good h (Free (Under h (byte block 2)) ∷ [])))
+release t h block = when (ofUnit block) (good h (releaseUnit t h)) (good h (Free (Under h (byte block 2)) ∷ []))
 
 -- ---- PREVENT ALLOW: "byte 4 bit 0 sets or clears the host's mask bit"
-
-unfoldable pub preventMasks : List ℕ
-preventMasks = 0x1F ∷ 0xFF ∷ 0xFF ∷ 0xFE ∷ 0xFF ∷ []
 
 unfoldable pub newMask : ℕ → ℕ → List ℕ → ℕ
 newMask m h block = when (eqb (byte block 4 % 2) 0) (allowing m h) (preventing m h)
 
 unfoldable pub prevent : Tables → ℕ → List ℕ → Verdict
-prevent t h block =
-    when (stray preventMasks block) (check h 5 0x24 0x00) (good h (Prevent (newMask (mask (t .head)) h block) ∷ []))
+prevent t h block = good h (Prevent (newMask (mask (t .head)) h block) ∷ [])

@@ -2,12 +2,15 @@ pub mod Choice
 pub mod Bytes
 pub mod Tables
 pub mod Roster
+pub mod Ranges
 pub mod Sound
+pub mod Operation
 pub mod Order
 pub mod Moves
 pub mod Holds
 pub mod Sense
 pub mod Listing
+pub mod Form
 pub mod Events
 pub mod Command
 pub mod Histories

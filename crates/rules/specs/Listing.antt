@@ -1,19 +1,16 @@
 -- READ ELEMENT STATUS: what is chosen, the whole answer, and what of it is returned. Assumes nothing.
-use Prim.Native.Nat.{ℕ, zero, suc, _+_, _*_, _-_, _/_, _%_}
+use Prim.Native.Nat.{ℕ, suc, _+_, _*_, _-_, _/_, _%_}
 use mathlib.Core.List.{List, [], _∷_, _++_, map}
-use mathlib.Core.Bool.{Bool, true, false}
+use mathlib.Core.Bool.{Bool}
 use lib.ListN.{length, take, drop}
 use lib.Dec.{eqb, leb, ltb}
 use Rattle.rules.specs.Choice.{when, anyOf}
-use Rattle.rules.specs.Bytes.{byte, word, triple, three, high, low}
+use Rattle.rules.specs.Bytes.{byte, word, triple, three, high, low, cut}
 use Rattle.rules.specs.Tables.{Tables, tagSize, volume, source, mark, Sense}
-use Rattle.rules.specs.Roster.{Slot, Range, ranges, sorted, roster, transport, port, drive}
-use Rattle.rules.specs.Order.{Verdict, Done, GOOD, check, stray}
+use Rattle.rules.specs.Roster.{Slot, Range, ranges, sorted, roster, transport, port}
+use Rattle.rules.specs.Order.{Verdict, Done, GOOD}
 
 -- "byte 1 bit 4 tags, bits 0-3 type .., 2-3 start, 4-5 most elements, 7-9 allocation"
-unfoldable pub listMasks : List ℕ
-listMasks = 0x00 ∷ 0x00 ∷ 0x00 ∷ 0x00 ∷ 0x00 ∷ 0xFF ∷ 0x00 ∷ 0x00 ∷ 0x00 ∷ 0xFF ∷ 0xFF ∷ []
-
 unfoldable pub withTags : List ℕ → Bool
 withTags block = eqb (byte block 1 / 16 % 2) 1
 
@@ -111,7 +108,7 @@ fitting room (p ∷ ps) = when (leb (length p) room) (p ++ fitting (room - lengt
 
 -- "below 8, the first allocation bytes of the header; else the header and as many whole descriptors as fit"
 unfoldable pub returned : ℕ → List ℕ → List (List ℕ) → List ℕ
-returned allocation head ps = when (ltb allocation 8) (take allocation head) (head ++ fitting (allocation - 8) ps)
+returned allocation head ps = when (ltb allocation 8) (cut allocation head) (head ++ fitting (allocation - 8) ps)
 
 unfoldable pub chosenBy : Tables → List ℕ → List Slot
 chosenBy t block = chosen (typeCode block) (word block 2) (word block 4) (roster (t .head))
@@ -123,8 +120,6 @@ pagesOf tagged t ss = pages tagged t (sorted (ranges (t .head))) ss
 unfoldable pub listing : Bool → Tables → ℕ → List Slot → List ℕ
 listing tagged t allocation ss = returned allocation (headerOf ss (pagesOf tagged t ss)) (pagesOf tagged t ss)
 
--- "a type code above 4: 5/24/00"
+-- READ ELEMENT STATUS, from step 5 on
 unfoldable pub readStatus : Tables → ℕ → List ℕ → Verdict
-readStatus t h block =
-    when (anyOf (stray listMasks block ∷ ltb drive (typeCode block) ∷ [])) (check h 5 0x24 0x00)
-    (Done GOOD (listing (withTags block) t (triple block 7) (chosenBy t block)) (Sense h 0 0 0 ∷ []))
+readStatus t h block = Done GOOD (listing (withTags block) t (triple block 7) (chosenBy t block)) (Sense h 0 0 0 ∷ [])

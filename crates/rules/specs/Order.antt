@@ -1,14 +1,13 @@
 -- "Order for a command": verdicts, the steps that all commands share, and what a verdict leaves. Assumes nothing.
-use Prim.Native.Nat.{ℕ, zero, suc}
+use Prim.Native.Nat.{ℕ}
 use mathlib.Core.List.{List, [], _∷_}
-use mathlib.Core.Bool.{Bool, true, false}
+use mathlib.Core.Bool.{Bool}
 use lib.ListN.{length}
-use lib.Bits.{bitAnd}
 use lib.Dec.{eqb, leb}
-use Rattle.rules.specs.Choice.{when, anyOf, allOf, differ}
-use Rattle.rules.specs.Bytes.{byte, put}
+use Rattle.rules.specs.Choice.{when, allOf, differ}
+use Rattle.rules.specs.Bytes.{put}
 use Rattle.rules.specs.Tables.{Tables, unit, attention, attentionq, holder, volume, Change, Sense, Attention, changes}
-use Rattle.rules.specs.Roster.{roster, placeOf, kindOf}
+use Rattle.rules.specs.Roster.{roster, placeOf}
 
 -- A call is judged, then carried out. `Number n`: refused by house number n. `Prevented n h`: refused by house number 7, n hosts prevent
 -- removal, h is the lowest. `Done status bytes changes`: house number 0.
@@ -75,6 +74,25 @@ good h cs = Done GOOD [] (Sense h 0 0 0 ∷ cs)
 unfoldable pub check : ℕ → ℕ → ℕ → ℕ → Verdict
 check h k a q = Done CHECK-CONDITION [] (Sense h k a q ∷ [])
 
+-- why a command is refused with key 5; a field of the block that is at fault, with its byte
+pub data Cause : Type 0 where
+  InvalidOperation : Cause
+  InvalidField : ℕ → Cause
+  ListLength : Cause
+  ListField : Cause
+  WrongAddress : Cause
+  SourceEmpty : Cause
+  DestinationFull : Cause
+
+unfoldable pub refused : ℕ → Cause → Verdict
+refused h InvalidOperation = check h 5 0x20 0x00
+refused h (InvalidField at) = check h 5 0x24 0x00
+refused h ListLength = check h 5 0x1A 0x00
+refused h ListField = check h 5 0x26 0x00
+refused h WrongAddress = check h 5 0x21 0x01
+refused h SourceEmpty = check h 5 0x3B 0x0E
+refused h DestinationFull = check h 5 0x3B 0x0D
+
 unfoldable pub conflict : ℕ → Verdict
 conflict h = Done RESERVATION-CONFLICT [] (Sense h 0 0 0 ∷ [])
 
@@ -91,7 +109,7 @@ heldByOther t h a = other h (holder (t .elements) (placeOf (roster (t .head)) a)
 unfoldable pub volumeOf : Tables → ℕ → ℕ
 volumeOf t a = volume (t .elements) (placeOf (roster (t .head)) a)
 
--- ---- steps 2 to 4
+-- ---- steps 2 and 3
 
 -- "2. Attention pending and not REQUEST SENSE: 6 with its codes, attention cleared."
 unfoldable pub afterAttention : Tables → ℕ → Verdict → Verdict
@@ -105,12 +123,3 @@ afterUnit t h rest = when (other h (unit (t .head))) (conflict h) rest
 
 unfoldable pub guarded : Tables → ℕ → Verdict → Verdict
 guarded t h rest = afterAttention t h (afterUnit t h rest)
-
--- "4. A bit without a use below, control byte, invert or third party not 0 ..: 5/24/00. Bits 5 to 7 of byte 1 are ignored."
--- The masks have the bits without a use of each byte, from byte i on.
-unfoldable pub strayFrom : List ℕ → List ℕ → ℕ → Bool
-strayFrom [] block i = false
-strayFrom (m ∷ ms) block i = when (eqb (bitAnd (byte block i) m) 0) (strayFrom ms block (suc i)) true
-
-unfoldable pub stray : List ℕ → List ℕ → Bool
-stray masks block = strayFrom masks block 1

@@ -1,7 +1,6 @@
 -- The ranges and the roster: "one for each address in the ranges, ascending (the address itself isn't stored)". Assumes nothing.
 use Prim.Native.Nat.{ℕ, zero, suc, _+_}
 use mathlib.Core.List.{List, [], _∷_, _++_}
-use lib.ListN.{length}
 use lib.Dec.{eqb, leb}
 use Rattle.rules.specs.Choice.{when}
 use Rattle.rules.specs.Bytes.{word}

@@ -1,11 +1,11 @@
 -- "The small library": its tables, the blocks of its cases, and a row for each case with the outcome whole. Assumes nothing.
-use Prim.Native.Nat.{ℕ, _/_, _%_}
+use Prim.Native.Nat.{ℕ}
 use mathlib.Core.List.{List, [], _∷_, _++_}
 use lib.ListN.{replicate}
 use Rattle.rules.specs.Bytes.{three, high, low}
 use Rattle.rules.specs.Tables.{Tables, lent, labels}
 use Rattle.rules.specs.Order.{Outcome}
-use Rattle.rules.specs.Command.{Request, Call, Command}
+use Rattle.rules.specs.Command.{Call, Command}
 
 -- "Transport 0001h, import/export 0010h, drive 0100h, storage 1000h to 1003h": in the head's order transport, storage, import/export, drive
 unfoldable pub smallRanges : List ℕ

@@ -1,12 +1,12 @@
 -- "Sound tables", as one computed test: each clause of the paper, in its order. Assumes nothing.
-use Prim.Native.Nat.{ℕ, zero, suc, _+_, _*_}
+use Prim.Native.Nat.{ℕ, suc, _+_, _*_}
 use mathlib.Core.List.{List, [], _∷_}
 use mathlib.Core.Bool.{Bool, true, false}
 use lib.ListN.{length}
 use lib.Dec.{eqb, leb}
 use Rattle.rules.specs.Choice.{when, anyOf, allOf, differ, below}
-use Rattle.rules.specs.Tables.{Tables, Rest, headSize, elementSize, tagSize, hosts, volumes, unit, key, asc, ascq, attention, attentionq, volume, source, holder, id, mark, zeroByte}
-use Rattle.rules.specs.Roster.{Slot, Range, range, ranges, roster, kindAt, kindOf, transport, storage, port, drive}
+use Rattle.rules.specs.Tables.{Tables, mostElements, mostTransports, mostVolumes, behindLast, Rest, headSize, elementSize, tagSize, hosts, volumes, unit, key, asc, ascq, attention, attentionq, volume, source, holder, id, mark, zeroByte}
+use Rattle.rules.specs.Roster.{Slot, Range, range, ranges, roster, kindAt, kindOf, transport, port}
 
 -- low to high, both ends included
 unfoldable pub within : ℕ → ℕ → ℕ → Bool
@@ -16,7 +16,7 @@ within low high n = allOf (leb low n ∷ leb n high ∷ [])
 
 unfoldable pub countsSound : ℕ → ℕ → ℕ → ℕ → Bool
 countsSound transports storages ports drives =
-    allOf (within 1 512 (transports + storages + ports + drives) ∷ within 1 127 transports ∷ leb 1 (storages + ports) ∷ [])
+    allOf (within 1 mostElements (transports + storages + ports + drives) ∷ within 1 mostTransports transports ∷ leb 1 (storages + ports) ∷ [])
 
 -- ---- "each range within 1 to 65,535 with no overlap; a count of 0 has first address 0"
 
@@ -25,7 +25,7 @@ abbrev pub behind : Range → ℕ
 behind r = r .first + r .count
 
 unfoldable pub rangeSound : Range → Bool
-rangeSound r = when (eqb (r .count) 0) (eqb (r .first) 0) (allOf (leb 1 (r .first) ∷ leb (behind r) 65536 ∷ []))
+rangeSound r = when (eqb (r .count) 0) (eqb (r .first) 0) (allOf (leb 1 (r .first) ∷ leb (behind r) behindLast ∷ []))
 
 unfoldable pub noOverlap : Range → Range → Bool
 noOverlap r s = anyOf (leb (behind r) (s .first) ∷ leb (behind s) (r .first) ∷ [])
@@ -95,7 +95,7 @@ headSound head =
 
 -- "V at most 512; all lengths exact"
 unfoldable pub labelsSound : List ℕ → List ℕ → Bool
-labelsSound tags blank = allOf (leb (volumes tags) 512 ∷ eqb (length tags) (tagSize * volumes tags) ∷ eqb (length blank) tagSize ∷ [])
+labelsSound tags blank = allOf (leb (volumes tags) mostVolumes ∷ eqb (length tags) (tagSize * volumes tags) ∷ eqb (length blank) tagSize ∷ [])
 
 -- the tables that no call writes
 unfoldable pub restSound : Rest → Bool

@@ -3,7 +3,7 @@
 use Prim.Native.Nat.{ℕ, _+_, _*_, _-_, _/_, _%_, _^_}
 use mathlib.Core.List.{List, [], _∷_}
 use mathlib.Core.Bool.{Bool}
-use lib.ListN.{length}
+use lib.ListN.{length, getD}
 use lib.Dec.{eqb}
 use Rattle.rules.specs.Choice.{when, each, allOf}
 use Rattle.rules.specs.Bytes.{byte, word, put, high, low}
@@ -24,6 +24,13 @@ lent head elements rest = record { head = head; elements = elements; rest = rest
 -- all that is lent beside the head and the elements
 abbrev pub others : List ℕ → List ℕ → Rest
 others tags blank = record { tags = tags; blank = blank }
+
+-- the same in a row, and back
+abbrev pub row : Rest → List (List ℕ)
+row r = r .tags ∷ r .blank ∷ []
+
+abbrev pub ofRow : List (List ℕ) → Rest
+ofRow ts = others (getD ts 0 []) (getD ts 1 [])
 
 -- the labels, and every other table empty
 abbrev pub labels : List ℕ → List ℕ → Rest
@@ -51,6 +58,31 @@ elementSize = 8
 abbrev pub tagSize : ℕ
 tagSize = 36
 
+-- RESERVE's list: "descriptors of 6 bytes"
+abbrev pub descriptorSize : ℕ
+descriptorSize = 6
+
+-- ---- the limits
+
+-- "1 to 512 elements; 1 to 127 transports"
+abbrev pub mostElements : ℕ
+mostElements = 512
+
+abbrev pub mostTransports : ℕ
+mostTransports = 127
+
+-- "V at most 512"
+abbrev pub mostVolumes : ℕ
+mostVolumes = 512
+
+-- "each range within 1 to 65,535": the address behind the last
+abbrev pub behindLast : ℕ
+behindLast = 65536
+
+-- "1 to 32 descriptors"
+abbrev pub mostDescriptors : ℕ
+mostDescriptors = 32
+
 -- ---- where the fields stand
 
 -- "Four ranges of 4 bytes, each first address and count": the k-th, from 0
@@ -65,9 +97,16 @@ unitAt = 16
 abbrev pub maskAt : ℕ
 maskAt = 17
 
--- "Then for each host 5 bytes": host 1's begin at byte 18
+-- "Then for each host 5 bytes": the first host's begin at byte 18
+abbrev pub hostSize : ℕ
+hostSize = 5
+
+abbrev pub hostsAt : ℕ
+hostsAt = 18
+
+-- host h's, the first being host 1
 abbrev pub hostAt : ℕ → ℕ
-hostAt h = 13 + 5 * h
+hostAt h = hostsAt - hostSize + hostSize * h
 
 -- the attention's two bytes stand behind key, ASC and ASCQ
 abbrev pub attentionAt : ℕ → ℕ
@@ -203,49 +242,73 @@ freedAt w p elements = when (theirs w (holder elements p) (id elements p)) (held
 unfoldable pub freed : Whose → List ℕ → List ℕ
 freed w elements = each (freedAt w) (places elements) 0 elements
 
--- ---- the changes that a command or an event makes, each of the head or of the elements
+-- ---- the changes that a command or an event makes, by the table that they write
+
+pub data HeadChange : Type 0 where
+  -- host, key, ASC, ASCQ
+  NewSense : ℕ → ℕ → ℕ → ℕ → HeadChange
+  -- host, ASC, ASCQ
+  NewAttention : ℕ → ℕ → ℕ → HeadChange
+  -- ASC, ASCQ for each host with none
+  NewForAll : ℕ → ℕ → HeadChange
+  -- the unit's holder
+  NewUnit : ℕ → HeadChange
+  -- the prevent mask
+  NewMask : ℕ → HeadChange
+
+pub data ElementChange : Type 0 where
+  -- place, volume, source, mark
+  NewStock : ℕ → ℕ → ℕ → ℕ → ElementChange
+  -- first place, how many, holder, id
+  NewHolds : ℕ → ℕ → ℕ → ℕ → ElementChange
+  NewlyFree : Whose → ElementChange
+
+unfoldable pub inHead : HeadChange → List ℕ → List ℕ
+inHead (NewSense h k a q) head = sensed head h k a q
+inHead (NewAttention h a q) head = attended head h a q
+inHead (NewForAll a q) head = announced head a q
+inHead (NewUnit h) head = unitHeld head h
+inHead (NewMask m) head = masked head m
+
+unfoldable pub inElements : ElementChange → List ℕ → List ℕ
+inElements (NewStock p v s m) elements = filled elements p v s m
+inElements (NewHolds p n h i) elements = held elements p n h i
+inElements (NewlyFree w) elements = freed w elements
 
 pub data Change : Type 0 where
-  -- host, key, ASC, ASCQ
-  Sense : ℕ → ℕ → ℕ → ℕ → Change
-  -- host, ASC, ASCQ
-  Attention : ℕ → ℕ → ℕ → Change
-  -- ASC, ASCQ for each host with none
-  Announce : ℕ → ℕ → Change
-  -- the unit's holder
-  HoldUnit : ℕ → Change
-  -- the prevent mask
-  Prevent : ℕ → Change
-  -- place, volume, source, mark
-  Fill : ℕ → ℕ → ℕ → ℕ → Change
-  -- first place, how many, holder, id
-  Hold : ℕ → ℕ → ℕ → ℕ → Change
-  Free : Whose → Change
-
-unfoldable pub inHead : Change → List ℕ → List ℕ
-inHead (Sense h k a q) head = sensed head h k a q
-inHead (Attention h a q) head = attended head h a q
-inHead (Announce a q) head = announced head a q
-inHead (HoldUnit h) head = unitHeld head h
-inHead (Prevent m) head = masked head m
-inHead (Fill p v s m) head = head
-inHead (Hold p n h i) head = head
-inHead (Free w) head = head
-
-unfoldable pub inElements : Change → List ℕ → List ℕ
-inElements (Sense h k a q) elements = elements
-inElements (Attention h a q) elements = elements
-inElements (Announce a q) elements = elements
-inElements (HoldUnit h) elements = elements
-inElements (Prevent m) elements = elements
-inElements (Fill p v s m) elements = filled elements p v s m
-inElements (Hold p n h i) elements = held elements p n h i
-inElements (Free w) elements = freed w elements
+  OfHead : HeadChange → Change
+  OfElements : ElementChange → Change
 
 unfoldable pub change : Change → Tables → Tables
-change c t = lent (inHead c (t .head)) (inElements c (t .elements)) (t .rest)
+change (OfHead c) t = lent (inHead c (t .head)) (t .elements) (t .rest)
+change (OfElements c) t = lent (t .head) (inElements c (t .elements)) (t .rest)
 
 -- one change after another
 unfoldable pub changes : List Change → Tables → Tables
 changes [] t = t
 changes (c ∷ cs) t = changes cs (change c t)
+
+-- the changes by the names that the rules use
+abbrev pub Sense : ℕ → ℕ → ℕ → ℕ → Change
+Sense h k a q = OfHead (NewSense h k a q)
+
+abbrev pub Attention : ℕ → ℕ → ℕ → Change
+Attention h a q = OfHead (NewAttention h a q)
+
+abbrev pub Announce : ℕ → ℕ → Change
+Announce a q = OfHead (NewForAll a q)
+
+abbrev pub HoldUnit : ℕ → Change
+HoldUnit h = OfHead (NewUnit h)
+
+abbrev pub Prevent : ℕ → Change
+Prevent m = OfHead (NewMask m)
+
+abbrev pub Fill : ℕ → ℕ → ℕ → ℕ → Change
+Fill p v s m = OfElements (NewStock p v s m)
+
+abbrev pub Hold : ℕ → ℕ → ℕ → ℕ → Change
+Hold p n h i = OfElements (NewHolds p n h i)
+
+abbrev pub Free : Whose → Change
+Free w = OfElements (NewlyFree w)

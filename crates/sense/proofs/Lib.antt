@@ -1,4 +1,2 @@
 pub mod Tests
-pub mod Fits
-pub mod Guards
 pub mod Telling

@@ -1,53 +1,24 @@
-// What a host is told: TEST UNIT READY and REQUEST SENSE from step 4 on. Steps 2 and 3 have a module of their own.
-pub mod guard;
-
+// What a host is told: REQUEST SENSE, from step 5 on.
 use order::Reply;
 ghost use mathlib.Core.Path.{_≡_};
 ghost use mathlib.Core.List.{List};
 ghost use Prim.Native.Nat.{ℕ, _≤_};
-ghost use lib.ListN.{length, take};
-ghost use Rattle.rules.specs.Bytes.{put};
+ghost use lib.ListN.{length};
+ghost use Rattle.rules.specs.Bytes.{put, cut};
 ghost use Rattle.rules.specs.Tables.{headSize, hosts, lent, Rest};
 ghost use Rattle.rules.specs.Order.{outcome, fits};
-ghost use Rattle.rules.specs.Moves.{ready};
 ghost use Rattle.rules.specs.Sense.{told, tellsAttention, requestSense};
 ghost use Rattle.order.specs.Ending.{ended};
-ghost use Rattle.sense.specs.Judged.{whole, counted, meaning, senseBy, Within};
+ghost use Rattle.sense.specs.Judged.{whole, meaning, senseBy, Within};
 
 // "Returns the first min(allocation, 18) bytes"
 const WHOLE: usize = 18;
 
-// What REQUEST SENSE comes to: a bit without a use, house number 5, or so many bytes of the attention or of the sense stored.
+// What REQUEST SENSE comes to: house number 5, or so many bytes of the attention or of the sense stored.
 pub enum Ruling {
-    Stray,
     Short,
     Attention(usize),
     Sense(usize),
-}
-
-// "TEST UNIT READY: GOOD."
-pub fn test_unit_ready(head: &mut [u8], host: u8, block: &[u8]) -> Reply
-    requires { ⌜ headSize ≤ length (now head) ⌝ }
-    requires { ⌜ host ≤ hosts ⌝ }
-    requires { ⌜ length (now block) ≡ 6 ⌝ }
-    ensures { λ r. ⌜ ((elements : List ℕ) (rest : Rest) (buffer : List ℕ) → ended r (lent (now (head .exit)) elements rest) buffer ≡ outcome (lent (now (head .entry)) elements rest) buffer (ready host (now (block .entry)))) ⌝ }
-{
-    let masks = [0x1F, 0xFF, 0xFF, 0xFF, 0xFF];
-    if order::stray(block, &masks) {
-        return order::check(head, host, 5, 0x24, 0x00);
-    }
-    order::good(head, host)
-}
-
-// "the first min(allocation, 18) bytes": how many.
-fn counted(allocation: u8) -> usize
-    ensures { λ r. ⌜ r ≡ counted allocation ⌝ }
-{
-    let n = allocation as usize;
-    if n <= WHOLE {
-        return n;
-    }
-    WHOLE
 }
 
 // "If no sense is stored but attention is, that"
@@ -70,11 +41,7 @@ fn judge(head: &[u8], host: u8, block: &[u8], room: usize) -> Ruling
     ensures { λ r. ⌜ r ≡ senseBy (now (head .entry)) host (now (block .entry)) room ⌝ }
     ensures { λ r. ⌜ Within room r ⌝ }
 {
-    let masks = [0x1F, 0xFF, 0xFF, 0x00, 0xFF];
-    if order::stray(block, &masks) {
-        return Ruling::Stray;
-    }
-    let count = counted(block[4]);
+    let count = order::cut(block[4] as usize, WHOLE);
     if room < count {
         return Ruling::Short;
     }
@@ -88,7 +55,7 @@ fn judge(head: &[u8], host: u8, block: &[u8], room: usize) -> Ruling
 fn tell(answer: &mut [u8], count: usize, key: u8, asc: u8, ascq: u8)
     requires { ⌜ count ≤ whole ⌝ }
     requires { ⌜ count ≤ length (now answer) ⌝ }
-    ensures { λ _. ⌜ now (answer .exit) ≡ put (now (answer .entry)) 0 (take count (told key asc ascq)) ⌝ }
+    ensures { λ _. ⌜ now (answer .exit) ≡ put (now (answer .entry)) 0 (cut count (told key asc ascq)) ⌝ }
 {
     let mut bytes = [0u8; WHOLE];
     bytes[0] = 0x70;
@@ -109,9 +76,9 @@ fn tell_attention(head: &mut [u8], host: u8, answer: &mut [u8], count: usize) ->
 {
     let asc = tables::head::attention(head, host);
     let ascq = tables::head::attentionq(head, host);
-    tell(answer, count, 6, asc, ascq);
+    tell(answer, count, order::UNIT_ATTENTION, asc, ascq);
     tables::head::attend(head, host, 0, 0);
-    order::told(0x00, count as u32)
+    order::told(order::GOOD, count as u32)
 }
 
 // The sense is told and cleared.
@@ -127,7 +94,7 @@ fn tell_sense(head: &mut [u8], host: u8, answer: &mut [u8], count: usize) -> Rep
     let ascq = tables::head::ascq(head, host);
     tell(answer, count, key, asc, ascq);
     tables::head::wipe(head, host);
-    order::told(0x00, count as u32)
+    order::told(order::GOOD, count as u32)
 }
 
 // REQUEST SENSE: the bytes are counted before one is written, and house number 5 leaves all as it was.
@@ -138,8 +105,7 @@ pub fn request_sense(head: &mut [u8], host: u8, block: &[u8], answer: &mut [u8])
     ensures { λ r. ⌜ ((elements : List ℕ) (rest : Rest) → ended r (lent (now (head .exit)) elements rest) (now (answer .exit)) ≡ outcome (lent (now (head .entry)) elements rest) (now (answer .entry)) (fits (now (answer .entry)) (requestSense (lent (now (head .entry)) elements rest) host (now (block .entry))))) ⌝ }
 {
     match judge(head, host, block, answer.len()) {
-        Ruling::Stray => order::check(head, host, 5, 0x24, 0x00),
-        Ruling::Short => order::numbered(5),
+        Ruling::Short => order::numbered(order::TOO_SHORT),
         Ruling::Attention(count) => tell_attention(head, host, answer, count),
         Ruling::Sense(count) => tell_sense(head, host, answer, count),
     }

@@ -1,5 +1,5 @@
 pub mod Stand
-pub mod Stocks
+pub mod Pass
 pub mod Once
 pub mod Holding
 pub mod Whole

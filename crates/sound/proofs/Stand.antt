@@ -1,4 +1,4 @@
--- An address is an element's exactly if it lies in one of the ranges. Assumes nothing.
+-- An address is an element's exactly if it lies in one of the runs. Assumes nothing.
 use Prim.Native.Nat.{ℕ, zero, suc, _+_, _<_, _≤_}
 use native.Mathlib.Numerals.{add-one}
 use native.Mathlib.Omega.{arith}
@@ -10,13 +10,12 @@ use lib.ListN.{length, getD, drop}
 use lib.Dec.{eqb, leb, ltb}
 use borrow.Author.Tests.{leb-true, leb-false, ltb-true, ltb-false, eqb-false, ne-eqb}
 use Rattle.rules.specs.Choice.{when, allOf, differ}
-use Rattle.rules.specs.Roster.{Range, Slot, slots, spread, insert, sorted, kindOf}
+use Rattle.rules.specs.Roster.{Range, Slot, slots, spread, kindOf}
 use Rattle.rules.proofs.Ladder.{ne-differ}
 use Rattle.tables.specs.declared.Range.{Range as Code}
-use Rattle.tables.specs.Ranges.{meaning, meant, rosterOf, Types}
+use Rattle.tables.specs.Ranges.{meaning, meant, laid, Kinds, Typed}
 use Rattle.tables.proofs.Sort.{none, meant-from, meant-end}
-use Rattle.tables.proofs.Roster.{sorted-types}
-use Rattle.sound.specs.Checks.{Typed, lies}
+use Rattle.sound.specs.Checks.{lies}
 
 -- it lies in one of them
 unfoldable pub stands : List Range → ℕ → Bool
@@ -42,8 +41,8 @@ slots-out (suc n) k f q a rest d =
 
 -- ---- of ranges one after the other
 
-spread-stands : (rs : List Range) (q a : ℕ) → Typed rs → differ (kindOf (spread q rs) a) 0 ≡ stands rs a
-unfolding Types spread kindOf stands lies allOf when differ
+spread-stands : (rs : List Range) (q a : ℕ) → Kinds (λ k. 1 ≤ k) rs → differ (kindOf (spread q rs) a) 0 ≡ stands rs a
+unfolding Kinds spread kindOf stands lies allOf when differ
 spread-stands [] q a ts = refl
 spread-stands (r ∷ rs) q a ts =
     go (spread-stands rs (q + r .count) a (ts .1)) (leb (r .first) a) (ltb a (r .first + r .count)) refl refl
@@ -61,48 +60,30 @@ spread-stands (r ∷ rs) q a ts =
         let l = leb-false (r .first) a e in
         rw (slots-out (r .count) (r .kind) (r .first) q a (spread (q + r .count) rs) (λ i h z. omega arith)) ih
 
-insert-stands : (r : Range) (rs : List Range) (a : ℕ) → stands (insert r rs) a ≡ stands (r ∷ rs) a
-unfolding insert stands when
-insert-stands r [] a = refl
-insert-stands r (s ∷ ss) a = go (leb (r .first) (s .first)) (lies r a) (lies s a) refl refl (insert-stands r ss a)
-  where
-    go : (b x y : Bool) → lies r a ≡ x → lies s a ≡ y → stands (insert r ss) a ≡ when (lies r a) true (stands ss a)
-        → stands (when b (r ∷ s ∷ ss) (s ∷ insert r ss)) a ≡ when (lies r a) true (when (lies s a) true (stands ss a))
-    go true x y e f ih = refl
-    go false true true e f ih = rw (f, e)
-    go false true false e f ih = rw (f, e) (rw e at ih)
-    go false false true e f ih = rw (f, e)
-    go false false false e f ih = rw (f, e) (rw e at ih)
+-- ---- the turns of the loop over the runs: those from k on are left
 
-sorted-stands : (rs : List Range) (a : ℕ) → stands (sorted rs) a ≡ stands rs a
-unfolding sorted stands
-sorted-stands [] a = refl
-sorted-stands (r ∷ rs) a = insert-stands r (sorted rs) a ∙ rw (sorted-stands rs a)
-
--- ---- the turns of the loop over the ranges: those from k on are left
-
-pub record Standing (rs : List Code) (a k : ℕ) : Type 0 where
+pub record Standing (runs : List Code) (a k : ℕ) : Type 0 where
   pub far : k ≤ 4
-  pub rest : differ (kindOf (rosterOf rs) a) 0 ≡ stands (drop k (meant rs)) a
+  pub rest : differ (kindOf (laid runs) a) 0 ≡ stands (drop k (meant runs)) a
 
-pub stand-begins : (rs : List Code) (a : ℕ) → Typed (meant rs) → Standing rs a 0
-unfolding rosterOf
-stand-begins rs a ts =
+pub stand-begins : (runs : List Code) (a : ℕ) → Typed runs → Standing runs a 0
+unfolding laid
+stand-begins runs a ts =
     record {
       far = omega arith;
-      rest = spread-stands (sorted (meant rs)) 0 a (sorted-types (λ k. 1 ≤ k) (meant rs) ts) ∙ sorted-stands (meant rs) a;
+      rest = spread-stands (meant runs) 0 a ts;
     }
 
-module _ (rs : List Code) (four : length rs ≡ 4) (a k : ℕ) (at : Standing rs a k) where
-  module _ (h : k < 4) (b : Bool) (is : b ≡ lies (meaning (getD rs k none)) a) where
-    pub stand-here : b ≡ true → true ≡ differ (kindOf (rosterOf rs) a) 0
+module _ (runs : List Code) (four : length runs ≡ 4) (a k : ℕ) (at : Standing runs a k) where
+  module _ (h : k < 4) (b : Bool) (is : b ≡ lies (meaning (getD runs k none)) a) where
+    pub stand-here : b ≡ true → true ≡ differ (kindOf (laid runs) a) 0
     unfolding stands when
-    stand-here t = sym (at .rest ∙ rw (meant-from rs k four h, sym is ∙ t))
+    stand-here t = sym (at .rest ∙ rw (meant-from runs k four h, sym is ∙ t))
 
-    pub stand-on : b ≡ false → Standing rs a (k + 1)
+    pub stand-on : b ≡ false → Standing runs a (k + 1)
     unfolding stands when
-    stand-on t = record { far = omega arith; rest = at .rest ∙ rw (meant-from rs k four h, sym is ∙ t, add-one) }
+    stand-on t = record { far = omega arith; rest = at .rest ∙ rw (meant-from runs k four h, sym is ∙ t, add-one) }
 
-  pub stand-ends : 4 ≤ k → false ≡ differ (kindOf (rosterOf rs) a) 0
+  pub stand-ends : 4 ≤ k → false ≡ differ (kindOf (laid runs) a) 0
   unfolding stands
-  stand-ends h = sym (at .rest ∙ rw (meant-end rs k four h))
+  stand-ends h = sym (at .rest ∙ rw (meant-end runs k four h))

@@ -1,15 +1,18 @@
-// The elements: what stands in each, who holds it, its last byte, and that no volume stands twice.
+// The elements in one pass: what stands in each, who holds it, its last byte, and that no volume stands twice.
 use tables::Range;
 ghost use mathlib.Core.Path.{_≡_};
-ghost use Prim.Native.Nat.{ℕ, _+_, _*_, _≤_, _<_};
+ghost use mathlib.Core.Bool.{true};
+ghost use Prim.Native.Nat.{_+_, _*_, _≤_};
 ghost use lib.ListN.{length};
-ghost use lib.Dec.{eqb};
-ghost use Rattle.rules.specs.Choice.{differ, below};
-ghost use Rattle.rules.specs.Tables.{elementSize, volume, holder, id, zeroByte};
+ghost use Rattle.rules.specs.Choice.{differ};
+ghost use Rattle.rules.specs.Tables.{elementSize, elementAt, holder, id};
 ghost use Rattle.rules.specs.Roster.{kindOf};
-ghost use Rattle.rules.specs.Sound.{transportEmpty, sourceSound, markSound, stockSound, holdSound, once, elementsSound};
-ghost use Rattle.tables.specs.Ranges.{meaning, meant, rosterOf};
-ghost use Rattle.sound.specs.Checks.{Typed, lies, stocksIn, stocks};
+ghost use Rattle.rules.specs.Sound.{sourceSound, markSound, holdSound, elementsSound};
+ghost use Rattle.tables.specs.Ranges.{meaning, laid, Typed};
+ghost use Rattle.sound.specs.Checks.{lies, lastOf, endingSound, fitBy, soundTo, Marks, Run};
+
+// A mark for each volume number, and none for 0.
+const SEEN: usize = layout::MOST_VOLUMES + 1;
 
 // An address lies in a range.
 fn lies_in(r: Range, address: u32) -> bool
@@ -25,15 +28,15 @@ fn lies_in(r: Range, address: u32) -> bool
     true
 }
 
-// An address is an element's if it lies in one of the ranges.
-fn is_element(rs: [Range; 4], address: u16) -> bool
-    requires { ⌜ Typed (meant rs) ⌝ }
-    ensures { λ r. ⌜ r ≡ differ (kindOf (rosterOf rs) address) 0 ⌝ }
+// An address is an element's if it lies in one of the runs.
+fn is_element(runs: [Range; 4], address: u16) -> bool
+    requires { ⌜ Typed runs ⌝ }
+    ensures { λ r. ⌜ r ≡ differ (kindOf (laid runs) address) 0 ⌝ }
 {
     let a = address as u32;
     let mut k: usize = 0;
     while k < 4 {
-        if lies_in(rs[k], a) {
+        if lies_in(runs[k], a) {
             return true;
         }
         k += 1;
@@ -42,9 +45,9 @@ fn is_element(rs: [Range; 4], address: u16) -> bool
 }
 
 // "A source is 0 or an element's address, and 0 where empty."
-fn source_sound(rs: [Range; 4], volume: u16, source: u16) -> bool
-    requires { ⌜ Typed (meant rs) ⌝ }
-    ensures { λ r. ⌜ r ≡ sourceSound (rosterOf rs) volume source ⌝ }
+fn source_sound(runs: [Range; 4], volume: u16, source: u16) -> bool
+    requires { ⌜ Typed runs ⌝ }
+    ensures { λ r. ⌜ r ≡ sourceSound (laid runs) volume source ⌝ }
 {
     if source == 0 {
         return true;
@@ -52,17 +55,17 @@ fn source_sound(rs: [Range; 4], volume: u16, source: u16) -> bool
     if volume == 0 {
         return false;
     }
-    is_element(rs, source)
+    is_element(runs, source)
 }
 
-// "Transports are empty."
-fn transport_empty(kind: u8, volume: u16) -> bool
-    ensures { λ r. ⌜ r ≡ transportEmpty kind volume ⌝ }
+// "Each volume number is at most V"; "Transports are empty.": the last number that may stand in an element of a type.
+fn last_of(top: usize, kind: u8) -> usize
+    ensures { λ r. ⌜ r ≡ lastOf top kind ⌝ }
 {
-    if kind == tables::TRANSPORT {
-        return volume == 0;
+    if kind == layout::TRANSPORT {
+        return 0;
     }
-    true
+    top
 }
 
 // "The mark is 1 only on a full import/export element, else 0."
@@ -75,7 +78,7 @@ fn mark_sound(kind: u8, volume: u16, mark: u8) -> bool
     if mark != 1 {
         return false;
     }
-    if kind != tables::PORT {
+    if kind != layout::PORT {
         return false;
     }
     if volume == 0 {
@@ -84,62 +87,19 @@ fn mark_sound(kind: u8, volume: u16, mark: u8) -> bool
     true
 }
 
-// What stands in an element of a type, where top is the last volume number.
-fn stock_sound(rs: [Range; 4], top: usize, kind: u8, volume: u16, source: u16, mark: u8) -> bool
-    requires { ⌜ Typed (meant rs) ⌝ }
-    ensures { λ r. ⌜ r ≡ stockSound top (rosterOf rs) kind volume source mark ⌝ }
+// The mark and the zero byte behind it: mostly both are 0.
+fn ending_sound(kind: u8, volume: u16, elements: &[u8], p: usize) -> bool
+    requires { ⌜ elementAt p + elementSize ≤ length (now elements) ⌝ }
+    ensures { λ r. ⌜ r ≡ endingSound kind volume (now (elements .entry)) p ⌝ }
 {
-    if (volume as usize) > top {
+    if wire::word_at(elements, layout::ELEMENT_SIZE * p + layout::MARK) == 0 {
+        return true;
+    }
+    let mark = tables::element::mark(elements, p);
+    if !mark_sound(kind, volume, mark) {
         return false;
     }
-    if !transport_empty(kind, volume) {
-        return false;
-    }
-    if !source_sound(rs, volume, source) {
-        return false;
-    }
-    mark_sound(kind, volume, mark)
-}
-
-// The n places from a place on, which are all of one type.
-fn run_sound(rs: [Range; 4], top: usize, kind: u8, from: usize, n: usize, elements: &[u8]) -> bool
-    requires { ⌜ Typed (meant rs) ⌝ }
-    requires { ⌜ elementSize * (from + n) ≤ length (now elements) ⌝ }
-    ensures { λ r. ⌜ r ≡ stocksIn top (rosterOf rs) (now (elements .entry)) kind from n ⌝ }
-{
-    let mut i: usize = 0;
-    while i < n {
-        let p = from + i;
-        let v = tables::element::volume(elements, p);
-        let s = tables::element::source(elements, p);
-        let m = tables::element::mark(elements, p);
-        if !stock_sound(rs, top, kind, v, s, m) {
-            return false;
-        }
-        i += 1;
-    }
-    true
-}
-
-// Every place, one range after the other.
-fn stocks_sound(rs: [Range; 4], top: usize, elements: &[u8]) -> bool
-    requires { ⌜ Typed (meant rs) ⌝ }
-    requires { ⌜ length (now elements) ≡ elementSize * length (rosterOf rs) ⌝ }
-    ensures { λ r. ⌜ r ≡ stocks top (rosterOf rs) (now (elements .entry)) (length (rosterOf rs)) ⌝ }
-{
-    let order = tables::sorted(rs);
-    let mut from: usize = 0;
-    let mut k: usize = 0;
-    while k < 4 {
-        let r = order[k];
-        let n = r.count as usize;
-        if !run_sound(rs, top, r.kind, from, n, elements) {
-            return false;
-        }
-        from += n;
-        k += 1;
-    }
-    true
+    tables::element::zero_byte(elements, p) == 0
 }
 
 // "Holder .. at most 8; id is 0 where there is no holder; if the unit is held, no other host holds an element."
@@ -149,7 +109,7 @@ fn hold_sound(unit: u8, holder: u8, id: u8) -> bool
     if holder == 0 {
         return id == 0;
     }
-    if holder > tables::HOSTS {
+    if holder > layout::HOSTS {
         return false;
     }
     if unit == 0 {
@@ -158,48 +118,61 @@ fn hold_sound(unit: u8, holder: u8, id: u8) -> bool
     holder == unit
 }
 
-fn holds_sound(unit: u8, n: usize, elements: &[u8]) -> bool
-    requires { ⌜ elementSize * n ≤ length (now elements) ⌝ }
-    ensures { λ r. ⌜ r ≡ below n (λ p. holdSound unit (holder (now (elements .entry)) p) (id (now (elements .entry)) p)) ⌝ }
+// Who holds an element: mostly nobody, without an id.
+fn held_sound(unit: u8, elements: &[u8], p: usize) -> bool
+    requires { ⌜ elementAt p + elementSize ≤ length (now elements) ⌝ }
+    ensures { λ r. ⌜ r ≡ holdSound unit (holder (now (elements .entry)) p) (id (now (elements .entry)) p) ⌝ }
 {
-    let mut p: usize = 0;
-    while p < n {
-        if !hold_sound(
-            unit,
-            tables::element::holder(elements, p),
-            tables::element::id(elements, p),
-        ) {
-            return false;
-        }
-        p += 1;
+    if wire::word_at(elements, layout::ELEMENT_SIZE * p + layout::HOLDER) == 0 {
+        return true;
     }
-    true
+    let holder = tables::element::holder(elements, p);
+    let id = tables::element::id(elements, p);
+    hold_sound(unit, holder, id)
 }
 
-// "the zero byte 0"
-fn zeros_sound(n: usize, elements: &[u8]) -> bool
-    requires { ⌜ elementSize * n ≤ length (now elements) ⌝ }
-    ensures { λ r. ⌜ r ≡ below n (λ p. eqb (zeroByte (now (elements .entry)) p) 0) ⌝ }
+// The element at a place by itself, as one of a type whose last volume number is this.
+fn fits(runs: [Range; 4], unit: u8, last: usize, kind: u8, elements: &[u8], p: usize) -> bool
+    requires { ⌜ Typed runs ⌝ }
+    requires { ⌜ elementAt p + elementSize ≤ length (now elements) ⌝ }
+    ensures { λ r. ⌜ r ≡ fitBy unit last (laid runs) (now (elements .entry)) kind p ⌝ }
 {
-    let mut p: usize = 0;
-    while p < n {
-        if tables::element::zero_byte(elements, p) != 0 {
-            return false;
-        }
-        p += 1;
+    let volume = tables::element::volume(elements, p);
+    if (volume as usize) > last {
+        return false;
     }
-    true
+    let source = tables::element::source(elements, p);
+    if !source_sound(runs, volume, source) {
+        return false;
+    }
+    if !ending_sound(kind, volume, elements, p) {
+        return false;
+    }
+    held_sound(unit, elements, p)
 }
 
-// "0 aside, stands at most once": one pass, with a mark for each volume number seen.
-fn all_once(n: usize, elements: &[u8]) -> bool
-    requires { ⌜ elementSize * n ≤ length (now elements) ⌝ }
-    requires { ⌜ ((p : ℕ) → p < n → volume (now elements) p ≤ 512) ⌝ }
-    ensures { λ r. ⌜ r ≡ below n (once (now (elements .entry))) ⌝ }
+// The places of a run: each by itself, and "0 aside, stands at most once", with a mark for each volume number seen.
+fn run_sound(
+    runs: [Range; 4],
+    unit: u8,
+    top: usize,
+    kind: u8,
+    first: usize,
+    end: usize,
+    elements: &[u8],
+    seen: &mut [u8; SEEN],
+) -> bool
+    requires { ⌜ Typed runs ⌝ }
+    requires { ⌜ Run unit top (laid runs) (now elements) kind first end (now seen) ⌝ }
+    ensures { λ r. ⌜ r ≡ soundTo unit top (laid runs) (now (elements .entry)) end ⌝ }
+    ensures { λ r. ⌜ (r ≡ true → Marks (now (elements .entry)) end (now (seen .exit))) ⌝ }
 {
-    let mut seen = [0u8; 513];
-    let mut p: usize = 0;
-    while p < n {
+    let last = last_of(top, kind);
+    let mut p = first;
+    while p < end {
+        if !fits(runs, unit, last, kind, elements, p) {
+            return false;
+        }
         let v = tables::element::volume(elements, p) as usize;
         if v != 0 {
             if seen[v] != 0 {
@@ -212,24 +185,36 @@ fn all_once(n: usize, elements: &[u8]) -> bool
     true
 }
 
-// The elements of the ranges, where the unit's holder and the last volume number are these.
-pub fn elements_sound(rs: [Range; 4], unit: u8, top: usize, elements: &[u8]) -> bool
-    requires { ⌜ Typed (meant rs) ⌝ }
+// Every place, one run after the other, each once.
+fn places_sound(runs: [Range; 4], unit: u8, top: usize, elements: &[u8]) -> bool
+    requires { ⌜ Typed runs ⌝ }
     requires { ⌜ top ≤ 512 ⌝ }
-    ensures { λ r. ⌜ r ≡ elementsSound (rosterOf rs) unit top (now (elements .entry)) ⌝ }
+    requires { ⌜ length (now elements) ≡ elementSize * length (laid runs) ⌝ }
+    ensures { λ r. ⌜ r ≡ soundTo unit top (laid runs) (now (elements .entry)) (length (laid runs)) ⌝ }
 {
-    let n = tables::total(rs);
-    if elements.len() != tables::element::SIZE * n {
+    let mut seen = [0u8; SEEN];
+    let mut first: usize = 0;
+    let mut k: usize = 0;
+    while k < 4 {
+        let r = runs[k];
+        let end = first + (r.count as usize);
+        if !run_sound(runs, unit, top, r.kind, first, end, elements, &mut seen) {
+            return false;
+        }
+        first = end;
+        k += 1;
+    }
+    true
+}
+
+// The elements of the runs, where the unit's holder and the last volume number are these.
+pub fn elements_sound(runs: [Range; 4], unit: u8, top: usize, elements: &[u8]) -> bool
+    requires { ⌜ Typed runs ⌝ }
+    requires { ⌜ top ≤ 512 ⌝ }
+    ensures { λ r. ⌜ r ≡ elementsSound (laid runs) unit top (now (elements .entry)) ⌝ }
+{
+    if elements.len() != layout::ELEMENT_SIZE * tables::total(runs) {
         return false;
     }
-    if !stocks_sound(rs, top, elements) {
-        return false;
-    }
-    if !holds_sound(unit, n, elements) {
-        return false;
-    }
-    if !zeros_sound(n, elements) {
-        return false;
-    }
-    all_once(n, elements)
+    places_sound(runs, unit, top, elements)
 }

@@ -1,22 +1,27 @@
-// "Sound tables": the check that every entry makes first. It reads any bytes of any lengths, each element a fixed number of times.
+// "Sound tables": the check that every entry makes first, and the runs of the element table that it hands on.
 pub mod element;
 
+use tables::Range;
 ghost use mathlib.Core.Path.{_≡_};
-ghost use Rattle.rules.specs.Tables.{lent, others};
+ghost use mathlib.Core.Bool.{true};
+ghost use lib.ListN.{length};
+ghost use Rattle.rules.specs.Tables.{headSize, lent, others};
+ghost use Rattle.rules.specs.Roster.{ranges};
 ghost use Rattle.rules.specs.Sound.{sound, labelsSound, restSound};
+ghost use Rattle.tables.specs.Ranges.{meant, Runs};
 
 // "V at most 512; all lengths exact"
 fn labels_sound(tags: &[u8], blank: &[u8]) -> bool
     ensures { λ r. ⌜ r ≡ labelsSound (now (tags .entry)) (now (blank .entry)) ⌝ }
 {
     let top = tables::volumes(tags);
-    if top > 512 {
+    if top > layout::MOST_VOLUMES {
         return false;
     }
-    if tags.len() != tables::TAG_SIZE * top {
+    if tags.len() != layout::TAG_SIZE * top {
         return false;
     }
-    if blank.len() != tables::TAG_SIZE {
+    if blank.len() != layout::TAG_SIZE {
         return false;
     }
     true
@@ -29,21 +34,63 @@ fn rest_sound(tags: &[u8], blank: &[u8]) -> bool
     labels_sound(tags, blank)
 }
 
-// The head, then what no call writes, then the elements by what the head says of them.
-pub fn sound(head: &[u8], elements: &[u8], tags: &[u8], blank: &[u8]) -> bool
+// What the check tells, and the runs of sound tables, which callers look up by.
+pub struct Checked {
+    pub sound: bool,
+    pub runs: [Range; 4],
+}
+
+// No runs, where a head is no head.
+fn no_runs() -> [Range; 4] {
+    let none = Range {
+        kind: 0,
+        first: 0,
+        count: 0,
+    };
+    [none, none, none, none]
+}
+
+// The head of these ranges, then what no call writes, then the elements by the runs of the ranges.
+fn parts_sound(
+    rs: [Range; 4],
+    runs: [Range; 4],
+    head: &[u8],
+    elements: &[u8],
+    tags: &[u8],
+    blank: &[u8],
+) -> bool
+    requires { ⌜ length (now head) ≡ headSize ⌝ }
+    requires { ⌜ meant rs ≡ ranges (now head) ⌝ }
+    requires { ⌜ Runs runs (now head) ⌝ }
     ensures { λ r. ⌜ r ≡ sound (lent (now (head .entry)) (now (elements .entry)) (others (now (tags .entry)) (now (blank .entry)))) ⌝ }
 {
-    if !sound_head::sound(head) {
+    if !sound_head::sound(rs, head) {
         return false;
     }
     if !rest_sound(tags, blank) {
         return false;
     }
-    let rs = tables::ranges(head);
     element::elements_sound(
-        rs,
+        runs,
         tables::head::unit(head),
         tables::volumes(tags),
         elements,
     )
+}
+
+// The check that every entry makes first: it reads any bytes of any lengths, each element once.
+pub fn check(head: &[u8], elements: &[u8], tags: &[u8], blank: &[u8]) -> Checked
+    ensures { λ r. ⌜ r .sound ≡ sound (lent (now (head .entry)) (now (elements .entry)) (others (now (tags .entry)) (now (blank .entry)))) ⌝ }
+    ensures { λ r. ⌜ (r .sound ≡ true → Runs (r .runs) (now (head .entry))) ⌝ }
+{
+    if head.len() != layout::HEAD_SIZE {
+        return Checked {
+            sound: false,
+            runs: no_runs(),
+        };
+    }
+    let rs = tables::ranges(head);
+    let runs = tables::sorted(rs);
+    let sound = parts_sound(rs, runs, head, elements, tags, blank);
+    Checked { sound, runs }
 }

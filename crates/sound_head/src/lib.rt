@@ -1,4 +1,4 @@
-// "Sound tables", the head: its length, its ranges, the unit's holder, and each host's record. It reads any bytes of any length.
+// "Sound tables", the head: its ranges, the unit's holder, and each host's record.
 use tables::Range;
 ghost use mathlib.Core.Path.{_≡_};
 ghost use mathlib.Core.List.{[], _∷_};
@@ -7,14 +7,13 @@ ghost use lib.ListN.{length, getD, drop};
 ghost use lib.Dec.{eqb};
 ghost use Rattle.rules.specs.Choice.{allOf, below};
 ghost use Rattle.rules.specs.Tables.{headSize, hosts, key, asc, ascq, attention, attentionq};
+ghost use Rattle.rules.specs.Roster.{ranges};
 ghost use Rattle.rules.specs.Sound.{within, rangeSound, noOverlap, clear, rangesSound, senseSound, attentionSound, headSound};
 ghost use Rattle.tables.specs.Ranges.{meaning, meant, noRange};
 ghost use Rattle.sound_head.specs.Counts.{countsFit};
 
-const BEHIND_LAST: u32 = 65536;
-
 // low to high, both ends included
-fn within(low: u32, high: u32, n: u32) -> bool
+fn within(low: usize, high: usize, n: usize) -> bool
     ensures { λ r. ⌜ r ≡ within low high n ⌝ }
 {
     if n < low {
@@ -34,14 +33,18 @@ fn counts_sound(rs: [Range; 4]) -> bool
     let storage = rs[1];
     let port = rs[2];
     let drive = rs[3];
-    let transports = transport.count as u32;
-    let storages = storage.count as u32;
-    let ports = port.count as u32;
-    let drives = drive.count as u32;
-    if !within(1, 512, transports + storages + ports + drives) {
+    let transports = transport.count as usize;
+    let storages = storage.count as usize;
+    let ports = port.count as usize;
+    let drives = drive.count as usize;
+    if !within(
+        1,
+        layout::MOST_ELEMENTS,
+        transports + storages + ports + drives,
+    ) {
         return false;
     }
-    if !within(1, 127, transports) {
+    if !within(1, layout::MOST_TRANSPORTS, transports) {
         return false;
     }
     if storages + ports < 1 {
@@ -61,7 +64,7 @@ fn range_sound(r: Range) -> bool
         return false;
     }
     let behind = (r.first as u32) + (r.count as u32);
-    if behind > BEHIND_LAST {
+    if behind > layout::BEHIND_LAST {
         return false;
     }
     true
@@ -164,7 +167,7 @@ fn senses_sound(head: &[u8]) -> bool
     ensures { λ r. ⌜ r ≡ below hosts (λ i. senseSound (key (now (head .entry)) (suc i)) (asc (now (head .entry)) (suc i)) (ascq (now (head .entry)) (suc i))) ⌝ }
 {
     let mut i: u8 = 0;
-    while i < tables::HOSTS {
+    while i < layout::HOSTS {
         let host = i + 1;
         if !sense_sound(
             tables::head::key(head, host),
@@ -183,7 +186,7 @@ fn attentions_sound(head: &[u8]) -> bool
     ensures { λ r. ⌜ r ≡ below hosts (λ i. attentionSound (attention (now (head .entry)) (suc i)) (attentionq (now (head .entry)) (suc i))) ⌝ }
 {
     let mut i: u8 = 0;
-    while i < tables::HOSTS {
+    while i < layout::HOSTS {
         let host = i + 1;
         if !attention_sound(
             tables::head::attention(head, host),
@@ -196,21 +199,19 @@ fn attentions_sound(head: &[u8]) -> bool
     true
 }
 
-// The head by itself.
-pub fn sound(head: &[u8]) -> bool
+// The head by itself, which has its length and these ranges.
+pub fn sound(rs: [Range; 4], head: &[u8]) -> bool
+    requires { ⌜ length (now head) ≡ headSize ⌝ }
+    requires { ⌜ meant rs ≡ ranges (now head) ⌝ }
     ensures { λ r. ⌜ r ≡ headSound (now (head .entry)) ⌝ }
 {
-    if head.len() != tables::HEAD_SIZE {
-        return false;
-    }
-    let rs = tables::ranges(head);
     if !counts_sound(rs) {
         return false;
     }
     if !ranges_sound(rs) {
         return false;
     }
-    if tables::head::unit(head) > tables::HOSTS {
+    if tables::head::unit(head) > layout::HOSTS {
         return false;
     }
     if !senses_sound(head) {

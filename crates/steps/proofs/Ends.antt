@@ -1,23 +1,50 @@
--- Each way out of a command ends as the rules say. Assumes nothing.
+-- Each way out of the steps ends as the rules say. Assumes nothing.
 use Prim.Native.Nat.{ℕ}
-use mathlib.Core.Path.{_≡_, refl}
+use mathlib.Core.Path.{_≡_, refl, sym, ap, _∙_}
 use mathlib.Core.Logic.{_≢_}
 use mathlib.Core.List.{List}
 use lib.ListN.{length}
 use borrow.Author.Tests.{ne-eqb}
 use Rattle.rules.specs.Choice.{when}
 use Rattle.rules.specs.Tables.{Tables, attention}
-use Rattle.rules.specs.Order.{Verdict, Outcome, outcome, fits, afterAttention}
+use Rattle.rules.specs.Order.{Verdict, fits, afterAttention, conflict, refused, InvalidField}
+use Rattle.rules.specs.Command.{act, admitted, stepsOf}
+use Rattle.rules.proofs.Untouched.{conflict-fits, refused-fits}
+use Rattle.admission.specs.declared.Operation.{Operation}
+use Rattle.admission.specs.declared.Admission.{Admission}
+use Rattle.admission.specs.declared.Admission.the-variants.{Pending, Held, Faulty, Open}
+use Rattle.admission.specs.Admitting.{meaning, admission, onAdmission}
+use Rattle.admission.proofs.Admissions.{is-pending, admission-is}
 
--- the command that was chosen, where it returns no bytes
-pub silent-ends : (t : Tables) (b : List ℕ) (v w : Verdict) (z : Outcome) → v ≡ w → fits b v ≡ v → z ≡ outcome t b v → z ≡ outcome t b (fits b w)
-silent-ends t b v w z e f g = cc
-
--- and where it may
-pub chosen-ends : (t : Tables) (b : List ℕ) (v w : Verdict) (z : Outcome) → v ≡ w → z ≡ outcome t b (fits b v) → z ≡ outcome t b (fits b w)
-chosen-ends t b v w z e g = cc
+-- the command that was chosen
+pub acts : (op o : Operation) → op ≡ o → (t : Tables) (h : ℕ) (block list buffer : List ℕ)
+    → fits buffer (act (meaning o) t h block list) ≡ fits buffer (act (meaning op) t h block list)
+acts op o told t h block list buffer = rw told refl
 
 -- attention that is told is told without bytes
-pub attention-fits : (t : Tables) (h : ℕ) (b : List ℕ) (rest : Verdict) → attention (t .head) h ≢ 0 → fits b (afterAttention t h rest) ≡ afterAttention t h rest
+attention-fits : (t : Tables) (h : ℕ) (buffer : List ℕ) (rest : Verdict) → attention (t .head) h ≢ 0 → fits buffer (afterAttention t h rest) ≡ afterAttention t h rest
 unfolding afterAttention fits when
-attention-fits t h b rest n = rw (ne-eqb (attention (t .head) h) 0 n) (rw (lib.Dec.leb·zero (length b)) refl)
+attention-fits t h buffer rest n = rw (ne-eqb (attention (t .head) h) 0 n) (rw (lib.Dec.leb·zero (length buffer)) refl)
+
+-- ---- the answer g of steps 1 to 4
+
+module _ (op : Operation) (t : Tables) (h : ℕ) (block list buffer : List ℕ) (g : Admission) (is : g ≡ admission op (t .head) h block list) where
+  by : (a : Admission) → g ≡ a → onAdmission t h a (act (meaning op) t h block list) ≡ stepsOf (meaning op) t h block list
+  unfolding stepsOf
+  by a e = sym (admission-is op t h block list g is (act (meaning op) t h block list) ∙ rw e refl)
+
+  pub pending-ends : g ≡ Pending → afterAttention t h (act (meaning op) t h block list) ≡ fits buffer (stepsOf (meaning op) t h block list)
+  unfolding onAdmission
+  pending-ends e = sym (attention-fits t h buffer _ (is-pending op t h block list g is e)) ∙ ap (fits buffer) (by Pending e)
+
+  pub held-ends : g ≡ Held → conflict h ≡ fits buffer (stepsOf (meaning op) t h block list)
+  unfolding onAdmission
+  held-ends e = sym (conflict-fits t h block buffer) ∙ ap (fits buffer) (by Held e)
+
+  pub faulty-ends : (at : ℕ) → g ≡ Faulty at → refused h (InvalidField at) ≡ fits buffer (stepsOf (meaning op) t h block list)
+  unfolding onAdmission
+  faulty-ends at e = sym (refused-fits t h block buffer (InvalidField at)) ∙ ap (fits buffer) (by (Faulty at) e)
+
+  pub open-ends : g ≡ Open → fits buffer (act (meaning op) t h block list) ≡ fits buffer (stepsOf (meaning op) t h block list)
+  unfolding onAdmission
+  open-ends e = ap (fits buffer) (by Open e)

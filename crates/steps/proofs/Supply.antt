@@ -9,7 +9,9 @@ use Rattle.rules.specs.Tables.{Rest, lent, headSize, elementSize}
 use Rattle.rules.specs.Roster.{roster}
 use Rattle.rules.specs.Sound.{sound}
 use Rattle.rules.proofs.Soundness.{sound-true, elements-length, places-is}
-use Rattle.listing.proofs.Ends.{listable}
+use Rattle.tables.specs.declared.Range.{Range}
+use Rattle.tables.specs.Ranges.{Runs}
+use Rattle.listing.proofs.Ends.{readable}
 use Rattle.steps.specs.Suited.{Suited}
 
 module _ (head elements : List ℕ) (rest : Rest) (s : sound (lent head elements rest) ≡ true) where
@@ -19,12 +21,11 @@ module _ (head elements : List ℕ) (rest : Rest) (s : sound (lent head elements
   pub records : length elements ≡ elementSize * length (roster head)
   records = elements-length (lent head elements rest) (sound-true (lent head elements rest) s)
 
-  pub suited : Suited head elements (rest .tags) (rest .blank)
-  suited =
+  pub suited : (runs : List Range) → Runs runs head → Suited runs head elements (rest .tags) (rest .blank)
+  suited runs is =
       let f = sound-true (lent head elements rest) s in
       record {
-        head-room = head-room;
         records = records;
-        ready-to-move = record { head-length = head-room; records = sym (places-is (lent head elements rest) f); transports = f .head-fits .transports-some };
-        ready-to-list = listable (lent head elements rest) s;
+        ready-to-move = record { head-length = head-room; runs-are = is; records = sym (places-is (lent head elements rest) f) };
+        ready-to-list = λ host block known long. readable (lent head elements rest) runs host block s is known long;
       }

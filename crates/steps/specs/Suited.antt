@@ -1,15 +1,26 @@
--- What the commands stand on; sound tables have it, whatever else is lent. Assumes nothing.
-use mathlib.Core.Path.{_≡_}
-use mathlib.Core.List.{List, []}
+-- What the commands stand on. Assumes nothing.
 use Prim.Native.Nat.{ℕ, _*_, _≤_}
+use mathlib.Core.Path.{_≡_}
+use mathlib.Core.List.{List}
 use lib.ListN.{length}
-use Rattle.rules.specs.Tables.{lent, labels, headSize, elementSize}
-use Rattle.rules.specs.Roster.{ranges, sorted, roster}
+use Rattle.rules.specs.Tables.{elementSize, hosts}
+use Rattle.rules.specs.Roster.{roster}
+use Rattle.tables.specs.declared.Range.{Range}
+use Rattle.admission.specs.declared.Operation.{Operation}
+use Rattle.admission.specs.Admitting.{Fitting}
 use Rattle.moves.specs.Judged.{Ready}
-use Rattle.listing.specs.Counting.{Listable}
+use Rattle.pages.specs.Pages.{stock}
+use Rattle.listing.specs.Counting.{Readable}
 
-pub record Suited (head elements tags blank : List ℕ) : Type 0 where
-  pub head-room : headSize ≤ length head
+-- of the tables: sound ones have it, whatever else is lent
+pub record Suited (runs : List Range) (head elements tags blank : List ℕ) : Type 0 where
   pub records : length elements ≡ elementSize * length (roster head)
-  pub ready-to-move : Ready head elements
-  pub ready-to-list : Listable (sorted (ranges head)) (lent [] elements (labels tags blank))
+  pub ready-to-move : Ready runs head elements
+  pub ready-to-list : (host : ℕ) (block : List ℕ) → host ≤ hosts → length block ≡ 12 → Readable runs head (stock elements tags blank) host block
+
+-- and of what a command is called with: house numbers 1 to 3
+pub record Served (op : Operation) (runs : List Range) (head elements tags blank : List ℕ) (host : ℕ) (block : List ℕ) : Type 0 where
+  pub suited : Suited runs head elements tags blank
+  pub host-some : 1 ≤ host
+  pub host-most : host ≤ hosts
+  pub fitting : Fitting op block

@@ -1,71 +1,38 @@
-// Steps 1 to 3 and the choice of the command, for tables that suit, as sound ones do, a host from 1 to 8 and a block of its length.
-pub mod judging;
-
+// Steps 1 to 8, for tables that suit, as sound ones do, a host from 1 to 8 and a block of its length.
+use admission::Admission;
+use admission::Operation;
+use order::Cause;
 use order::Reply;
-use sense::guard::Guard;
+use tables::Range;
 ghost use mathlib.Core.Path.{_≡_};
-ghost use mathlib.Core.Bool.{true};
 ghost use mathlib.Core.List.{List};
 ghost use Prim.Native.Nat.{ℕ, _≤_};
 ghost use lib.ListN.{length};
-ghost use Rattle.rules.specs.Tables.{lent, headSize, hosts, Rest};
-ghost use Rattle.rules.specs.Order.{outcome, fits};
-ghost use Rattle.rules.specs.Command.{operation, known, blockFits, steps as stepsVerdict};
-ghost use Rattle.order.specs.Ending.{ended};
-ghost use Rattle.steps.specs.Suited.{Suited};
-ghost use Rattle.steps.specs.Steps.{commandBy, guardedBy, heldBy, openBy};
+ghost use Rattle.rules.specs.Tables.{lent, headSize, hosts, attention, Rest};
+ghost use Rattle.rules.specs.Order.{Verdict, outcome, fits, afterAttention};
+ghost use Rattle.rules.specs.Command.{act, stepsOf};
+ghost use Rattle.order.specs.Ending.{ended, Lends};
+ghost use Rattle.admission.specs.Admitting.{meaning};
+ghost use Rattle.steps.specs.Suited.{Served};
 
-// The commands that meet steps 2 and 3.
-fn command<'a>(
-    head: &mut [u8],
-    elements: &mut [u8],
-    tags: &'a [u8],
-    blank: &'a [u8],
-    host: u8,
-    block: &[u8],
-    parameters: &[u8],
-    answer: &mut [u8],
-) -> Reply
-    requires { ⌜ Suited (now head) (now elements) (now tags) (now blank) ⌝ }
-    requires { ⌜ (1 ≤ host) × (host ≤ hosts) ⌝ }
-    requires { ⌜ blockFits (now block) ≡ true ⌝ }
-    requires { ⌜ (known (operation (now block)) ≡ true) × ((operation (now block) ≡ 0x03 → ⊥) × (operation (now block) ≡ 0x17 → ⊥)) ⌝ }
-    ensures { λ r. ⌜ ((rest : Rest) → rest .tags ≡ now (tags .entry) → rest .blank ≡ now (blank .entry) → ended r (lent (now (head .exit)) (now (elements .exit)) rest) (now (answer .exit)) ≡ outcome (lent (now (head .entry)) (now (elements .entry)) rest) (now (answer .entry)) (fits (now (answer .entry)) (commandBy (lent (now (head .entry)) (now (elements .entry)) rest) host (now (block .entry)) (now (parameters .entry))))) ⌝ }
-{
-    let op = block[0];
-    if op == 0x00 {
-        return sense::test_unit_ready(head, host, block);
-    }
-    if op == 0x16 {
-        return holds::reserve(head, elements, host, block, parameters);
-    }
-    if op == 0x1E {
-        return holds::prevent_allow(head, host, block);
-    }
-    if op == 0xA5 {
-        return moves::move_medium(head, elements, host, block);
-    }
-    if op == 0xA6 {
-        return moves::exchange_medium(head, elements, host, block);
-    }
-    listing::read_element_status(head, elements, tags, blank, host, block, answer)
-}
-
-// The unit is held by another host: "never for RELEASE".
-fn held(head: &mut [u8], elements: &mut [u8], host: u8, block: &[u8]) -> Reply
+// "6 with its codes, attention cleared", whatever would come after.
+fn report_attention(head: &mut [u8], host: u8) -> Reply
     requires { ⌜ headSize ≤ length (now head) ⌝ }
     requires { ⌜ host ≤ hosts ⌝ }
-    requires { ⌜ blockFits (now block) ≡ true ⌝ }
-    ensures { λ r. ⌜ ((rest : Rest) (buffer : List ℕ) → ended r (lent (now (head .exit)) (now (elements .exit)) rest) buffer ≡ outcome (lent (now (head .entry)) (now (elements .entry)) rest) buffer (fits buffer (heldBy (lent (now (head .entry)) (now (elements .entry)) rest) host (now (block .entry))))) ⌝ }
+    requires { ⌜ (attention (now head) host ≡ 0 → ⊥) ⌝ }
+    ensures { λ r. ⌜ ((elements : List ℕ) (rest : Rest) (buffer : List ℕ) (later : Verdict) → ended r (lent (now (head .exit)) elements rest) buffer ≡ outcome (lent (now (head .entry)) elements rest) buffer (afterAttention (lent (now (head .entry)) elements rest) host later)) ⌝ }
 {
-    if block[0] == 0x17 {
-        return holds::release(head, elements, host, block);
-    }
-    order::conflict(head, host)
+    let asc = tables::head::attention(head, host);
+    let ascq = tables::head::attentionq(head, host);
+    tables::head::note(head, host, order::UNIT_ATTENTION, asc, ascq);
+    tables::head::attend(head, host, 0, 0);
+    order::told(order::CHECK_CONDITION, 0)
 }
 
-// Neither attention nor another host's unit stands in the way.
-fn admitted<'a>(
+// From step 5 on: the one place that chooses the command.
+fn command<'a>(
+    op: Operation,
+    runs: [Range; 4],
     head: &mut [u8],
     elements: &mut [u8],
     tags: &'a [u8],
@@ -75,50 +42,35 @@ fn admitted<'a>(
     parameters: &[u8],
     answer: &mut [u8],
 ) -> Reply
-    requires { ⌜ Suited (now head) (now elements) (now tags) (now blank) ⌝ }
-    requires { ⌜ (1 ≤ host) × (host ≤ hosts) ⌝ }
-    requires { ⌜ blockFits (now block) ≡ true ⌝ }
-    requires { ⌜ (known (operation (now block)) ≡ true) × (operation (now block) ≡ 0x03 → ⊥) ⌝ }
-    ensures { λ r. ⌜ ((rest : Rest) → rest .tags ≡ now (tags .entry) → rest .blank ≡ now (blank .entry) → ended r (lent (now (head .exit)) (now (elements .exit)) rest) (now (answer .exit)) ≡ outcome (lent (now (head .entry)) (now (elements .entry)) rest) (now (answer .entry)) (fits (now (answer .entry)) (openBy (lent (now (head .entry)) (now (elements .entry)) rest) host (now (block .entry)) (now (parameters .entry))))) ⌝ }
+    requires { ⌜ Served op runs (now head) (now elements) (now tags) (now blank) host (now block) ⌝ }
+    ensures { λ r. ⌜ ((rest : Rest) → Lends rest (now (tags .entry)) (now (blank .entry)) → ended r (lent (now (head .exit)) (now (elements .exit)) rest) (now (answer .exit)) ≡ outcome (lent (now (head .entry)) (now (elements .entry)) rest) (now (answer .entry)) (fits (now (answer .entry)) (act (meaning op) (lent (now (head .entry)) (now (elements .entry)) rest) host (now (block .entry)) (now (parameters .entry))))) ⌝ }
 {
-    if block[0] == 0x17 {
-        return holds::release(head, elements, host, block);
-    }
-    command(head, elements, tags, blank, host, block, parameters, answer)
-}
-
-// Steps 2 and 3.
-fn guarded<'a>(
-    head: &mut [u8],
-    elements: &mut [u8],
-    tags: &'a [u8],
-    blank: &'a [u8],
-    host: u8,
-    block: &[u8],
-    parameters: &[u8],
-    answer: &mut [u8],
-) -> Reply
-    requires { ⌜ Suited (now head) (now elements) (now tags) (now blank) ⌝ }
-    requires { ⌜ (1 ≤ host) × (host ≤ hosts) ⌝ }
-    requires { ⌜ blockFits (now block) ≡ true ⌝ }
-    requires { ⌜ (known (operation (now block)) ≡ true) × (operation (now block) ≡ 0x03 → ⊥) ⌝ }
-    ensures { λ r. ⌜ ((rest : Rest) → rest .tags ≡ now (tags .entry) → rest .blank ≡ now (blank .entry) → ended r (lent (now (head .exit)) (now (elements .exit)) rest) (now (answer .exit)) ≡ outcome (lent (now (head .entry)) (now (elements .entry)) rest) (now (answer .entry)) (fits (now (answer .entry)) (guardedBy (lent (now (head .entry)) (now (elements .entry)) rest) host (now (block .entry)) (now (parameters .entry))))) ⌝ }
-{
-    match sense::guard::judge(head, host) {
-        Guard::Pending => {
-            return sense::guard::tell_attention(head, host);
-        }
-        Guard::Held => {
-            return held(head, elements, host, block);
-        }
-        Guard::Open => {
-            return admitted(head, elements, tags, blank, host, block, parameters, answer);
-        }
+    match op {
+        Operation::TestUnitReady => order::good(head, host),
+        Operation::RequestSense => sense::request_sense(head, host, block, answer),
+        Operation::Reserve => holds::reserve(runs, head, elements, host, block, parameters),
+        Operation::Release => holds::release(head, elements, host, block),
+        Operation::PreventAllow => holds::prevent_allow(head, host, block),
+        Operation::MoveMedium => moves::move_medium(runs, head, elements, host, block),
+        Operation::ExchangeMedium => moves::exchange_medium(runs, head, elements, host, block),
+        Operation::ReadElementStatus => listing::read_element_status(
+            runs,
+            head,
+            elements,
+            tags,
+            blank,
+            host,
+            block,
+            answer,
+        ),
+        Operation::Unknown => order::refuse(head, host, Cause::InvalidOperation),
     }
 }
 
-// Steps 1 to 8.
+// Steps 1 to 4, then the command.
 pub fn steps<'a>(
+    op: Operation,
+    runs: [Range; 4],
     head: &mut [u8],
     elements: &mut [u8],
     tags: &'a [u8],
@@ -128,17 +80,24 @@ pub fn steps<'a>(
     parameters: &[u8],
     answer: &mut [u8],
 ) -> Reply
-    requires { ⌜ Suited (now head) (now elements) (now tags) (now blank) ⌝ }
-    requires { ⌜ (1 ≤ host) × (host ≤ hosts) ⌝ }
-    requires { ⌜ blockFits (now block) ≡ true ⌝ }
-    ensures { λ r. ⌜ ((rest : Rest) → rest .tags ≡ now (tags .entry) → rest .blank ≡ now (blank .entry) → ended r (lent (now (head .exit)) (now (elements .exit)) rest) (now (answer .exit)) ≡ outcome (lent (now (head .entry)) (now (elements .entry)) rest) (now (answer .entry)) (fits (now (answer .entry)) (stepsVerdict (lent (now (head .entry)) (now (elements .entry)) rest) host (now (block .entry)) (now (parameters .entry))))) ⌝ }
+    requires { ⌜ Served op runs (now head) (now elements) (now tags) (now blank) host (now block) ⌝ }
+    ensures { λ r. ⌜ ((rest : Rest) → Lends rest (now (tags .entry)) (now (blank .entry)) → ended r (lent (now (head .exit)) (now (elements .exit)) rest) (now (answer .exit)) ≡ outcome (lent (now (head .entry)) (now (elements .entry)) rest) (now (answer .entry)) (fits (now (answer .entry)) (stepsOf (meaning op) (lent (now (head .entry)) (now (elements .entry)) rest) host (now (block .entry)) (now (parameters .entry))))) ⌝ }
 {
-    let op = block[0];
-    if op == 0x03 {
-        return sense::request_sense(head, host, block, answer);
+    match admission::judge(op, head, host, block, parameters) {
+        Admission::Pending => report_attention(head, host),
+        Admission::Held => order::conflict(head, host),
+        Admission::Faulty(at) => order::refuse(head, host, Cause::InvalidField(at)),
+        Admission::Open => command(
+            op,
+            runs,
+            head,
+            elements,
+            tags,
+            blank,
+            host,
+            block,
+            parameters,
+            answer,
+        ),
     }
-    if judging::is_known(op) {
-        return guarded(head, elements, tags, blank, host, block, parameters, answer);
-    }
-    order::check(head, host, 5, 0x20, 0x00)
 }

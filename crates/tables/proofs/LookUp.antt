@@ -1,24 +1,59 @@
 -- What the answer of a look-up tells: for callers, and the turns of the search. Assumes nothing.
-use Prim.Native.Nat.{ℕ, zero, suc, _+_, _<_, _≤_}
+use Prim.Native.Nat.{ℕ, zero, suc, _+_, _*_, _<_, _≤_}
 use native.Mathlib.Nat.{not-suc-le-zero}
 use native.Mathlib.Numerals.{add-one}
 use native.Mathlib.Omega.{arith}
 use mathlib.Core.Path.{_≡_, refl, sym, ap, _∙_}
-use mathlib.Core.Bool.{Bool, true, false}
+use mathlib.Core.Logic.{_≢_}
+use mathlib.Core.Bool.{Bool, true, false, not}
 use mathlib.Core.List.{List, [], _∷_}
 use lib.ListN.{length, drop, drop-of-length-le}
 use lib.Seq.{drop-cons}
-use lib.Dec.{eqb, ltb}
-use borrow.Author.Tests.{ltb-true, ltb-false, lt-ltb, le-ltb, eq-eqb, ne-eqb}
-use Rattle.rules.specs.Choice.{when}
-use Rattle.rules.specs.Roster.{Slot, roster, kindAt, kindOf, placeOf}
+use lib.Dec.{eqb, leb, ltb}
+use borrow.Author.Tests.{not-false, eqb-true, eq-eqb, ne-eqb, ltb-true, lt-leb, le-leb, ltb-false}
+use Rattle.rules.specs.Choice.{when, differ}
+use Rattle.rules.specs.Tables.{Tables, elementSize, elementAt, places}
+use Rattle.rules.specs.Roster.{Slot, roster, kindAt, kindOf, placeOf, transport, port}
+use Rattle.rules.specs.Moves.{noTransport, noPlace}
+use Rattle.rules.specs.Events.{noPort}
+use Rattle.rules.specs.Holds.{unknown, address}
+use Rattle.rules.proofs.Ladder.{differ-true}
+use Rattle.rules.proofs.Places.{place-in}
+use Rattle.tables.specs.declared.Range.{Range as Code}
 use Rattle.tables.specs.declared.Slot.{Slot as Declared}
+use Rattle.tables.specs.declared.Types.{Types}
+use Rattle.tables.specs.declared.Types.the-variants.{Any, Transport, Place, Port}
 use Rattle.tables.specs.declared.Found.{Found}
 use Rattle.tables.specs.declared.Found.the-variants.{At, Nothing}
-use Rattle.tables.specs.LookUp.{found, addressAt, slotAt, noSlot}
-use Rattle.rules.proofs.Places.{kind-at}
+use Rattle.tables.specs.Ranges.{laid, Typed}
+use Rattle.tables.specs.LookUp.{admits, found, onFound, addressAt, slotAt, noSlot}
+use Rattle.tables.proofs.Roster.{kind-laid}
 
--- ---- places and types of a roster
+-- ---- by cases on a look-up's answer
+
+pub at-yes : {A : Type 0} (f g : Found) (p : ℕ) (k : ℕ → A) (y z : A) → f ≡ g → f ≡ At p → z ≡ k p → z ≡ onFound g k y
+unfolding onFound
+at-yes f g p k y z e t w = rw (sym e ∙ t) w
+
+pub at-no : {A : Type 0} (f g : Found) (k : ℕ → A) (y z : A) → f ≡ g → f ≡ Nothing → z ≡ y → z ≡ onFound g k y
+unfolding onFound
+at-no f g k y z e t w = rw (sym e ∙ t) w
+
+-- the address that was looked up came from a call
+pub found-by : (f : Found) (ts : Types) (ss : List Slot) (x y : ℕ) → f ≡ found ts ss x → x ≡ y → f ≡ found ts ss y
+found-by f ts ss x y e q = e ∙ ap (found ts ss) q
+
+-- the cases of an answer are those of the type
+pub found-cases : {A : Type 0} (ts : Types) (ss : List Slot) (a : ℕ) (k : ℕ → A) (y : A)
+    → onFound (found ts ss a) k y ≡ when (admits ts (kindOf ss a)) (k (placeOf ss a)) y
+unfolding found when onFound
+found-cases {A} ts ss a k y = go (admits ts (kindOf ss a))
+  where
+    go : (b : Bool) → onFound (when b (At (placeOf ss a)) Nothing) k y ≡ when b (k (placeOf ss a)) y
+    go true = refl
+    go false = refl
+
+-- ---- places and types
 
 pub kind-past : (ss : List Slot) (p : ℕ) → length ss ≤ p → kindAt ss p ≡ 0
 unfolding kindAt
@@ -36,46 +71,124 @@ kind-place (s ∷ ss) a = go (eqb (s .address) a) (kind-place ss a)
     go true ih = refl
     go false ih = ih
 
+pub place-most : (ss : List Slot) (a : ℕ) → placeOf ss a ≤ length ss
+unfolding placeOf when
+place-most [] a = omega arith
+place-most (s ∷ ss) a = go (eqb (s .address) a) (place-most ss a)
+  where
+    go : (b : Bool) → placeOf ss a ≤ length ss → when b 0 (suc (placeOf ss a)) ≤ suc (length ss)
+    go true h = omega arith
+    go false h = omega arith
+
+-- what is looked for has a type
+admits-some : (ts : Types) (k : ℕ) → admits ts k ≡ true → k ≢ 0
+unfolding admits
+admits-some Any k e = differ-true k 0 e
+admits-some Transport k e = λ z. omega (arith, eqb-true k transport e)
+admits-some Place k e = λ z. omega (arith, ltb-true transport k e)
+admits-some Port k e = λ z. omega (arith, eqb-true k port e)
+
+admits-none : (ts : Types) → admits ts 0 ≡ false
+unfolding admits differ
+admits-none Any = refl
+admits-none Transport = refl
+admits-none Place = refl
+admits-none Port = refl
+
 -- ---- what callers learn: the answer f of a look-up of the address a
 
-module _ (ss : List Slot) (a : ℕ) (f : Found) (is : f ≡ found ss a) where
-  tells : (p : ℕ) → f ≡ At p → (b : Bool) → ltb (placeOf ss a) (length ss) ≡ b → (p ≡ placeOf ss a) × (p < length ss)
-  unfolding found when
-  tells p e true t =
-      let q : p ≡ placeOf ss a = (let z : At p ≡ At (placeOf ss a) = sym e ∙ is ∙ rw t in cc) in
-      (q, rw q (ltb-true (placeOf ss a) (length ss) t))
-  tells p e false t = let z : At p ≡ Nothing = sym e ∙ is ∙ rw t in let y : _≡_ {A = ℕ} 0 1 = cc in absurd (let w : ⊥ = omega arith in w)
-
+module _ (ts : Types) (ss : List Slot) (a : ℕ) (f : Found) (is : f ≡ found ts ss a) where
   module _ (p : ℕ) (e : f ≡ At p) where
+    tells : (b : Bool) → admits ts (kindOf ss a) ≡ b → (b ≡ true) × (p ≡ placeOf ss a)
+    unfolding found when
+    tells true t = (refl, let z : At p ≡ At (placeOf ss a) = sym e ∙ is ∙ rw t in cc)
+    tells false t = let z : At p ≡ Nothing = sym e ∙ is ∙ rw t in let y : _≡_ {A = ℕ} 0 1 = cc in absurd (let w : ⊥ = omega arith in w)
+
+    pub at-admits : admits ts (kindOf ss a) ≡ true
+    at-admits = tells (admits ts (kindOf ss a)) refl .0
+
     pub at-place : p ≡ placeOf ss a
-    at-place = tells p e (ltb (placeOf ss a) (length ss)) refl .0
+    at-place = tells (admits ts (kindOf ss a)) refl .1
+
+    pub at-some : kindOf ss a ≢ 0
+    at-some = admits-some ts (kindOf ss a) at-admits
 
     pub at-below : p < length ss
-    at-below = tells p e (ltb (placeOf ss a) (length ss)) refl .1
+    at-below = rw at-place (place-in ss a at-some)
 
-    pub at-kind : kindAt ss p ≡ kindOf ss a
-    at-kind = rw at-place (kind-place ss a)
+    -- it is a place of a table that is as long as the elements say
+    pub at-room : (n : ℕ) → n ≡ elementSize * length ss → elementAt p + elementSize ≤ n
+    at-room n long = omega (arith, at-below)
 
-  misses : f ≡ Nothing → (b : Bool) → ltb (placeOf ss a) (length ss) ≡ b → length ss ≤ placeOf ss a
+    pub at-within : (es : List ℕ) → length es ≡ elementSize * length ss → p < places es
+    unfolding places
+    at-within es long = omega (arith, at-below)
+
+  pub nothing-admits : f ≡ Nothing → admits ts (kindOf ss a) ≡ false
   unfolding found when
-  misses e true t = let z : Nothing ≡ At (placeOf ss a) = sym e ∙ is ∙ rw t in let y : _≡_ {A = ℕ} 0 1 = cc in absurd (let w : ⊥ = omega arith in w)
-  misses e false t = ltb-false (placeOf ss a) (length ss) t
+  nothing-admits e = go (admits ts (kindOf ss a)) refl
+    where
+      go : (b : Bool) → admits ts (kindOf ss a) ≡ b → b ≡ false
+      go true t = let z : Nothing ≡ At (placeOf ss a) = sym e ∙ is ∙ rw t in let y : _≡_ {A = ℕ} 0 1 = cc in absurd (let w : ⊥ = omega arith in w)
+      go false t = refl
 
-  pub nothing-kind : f ≡ Nothing → kindOf ss a ≡ 0
-  nothing-kind e = sym (kind-place ss a) ∙ kind-past ss (placeOf ss a) (misses e (ltb (placeOf ss a) (length ss)) refl)
+-- the place of an address that is no element's of the runs is their number
+pub nothing-place : (runs : List Code) (a : ℕ) (f : Found) → Typed runs → f ≡ found Any (laid runs) a → f ≡ Nothing → length (laid runs) ≡ placeOf (laid runs) a
+unfolding admits differ
+nothing-place runs a f ts is e = go (ltb (placeOf ss a) (length ss)) refl
+  where
+    ss : List Slot
+    ss = laid runs
 
--- an address that is found in the head's roster has a type
-pub head-known : (head : List ℕ) (a : ℕ) (f : Found) (p : ℕ) → f ≡ found (roster head) a → f ≡ At p → 1 ≤ kindOf (roster head) a
-head-known head a f p is e = rw (sym (at-kind (roster head) a f is p e)) (kind-at head p (at-below (roster head) a f is p e) .0)
+    go : (b : Bool) → ltb (placeOf ss a) (length ss) ≡ b → length ss ≡ placeOf ss a
+    go true t =
+        let k : kindOf ss a ≡ 0 = eqb-true (kindOf ss a) 0 (not-false _ (nothing-admits Any ss a f is e)) in
+        absurd (let w : ⊥ = omega (arith, kind-laid runs (placeOf ss a) ts (ltb-true _ _ t), kind-place ss a) in w)
+    go false t = omega (arith, ltb-false (placeOf ss a) (length ss) t, place-most ss a)
+
+-- ---- the rules' tests ask the same
+
+pub no-transport-is : (t : Tables) (a : ℕ) → noTransport t a ≡ not (admits Transport (kindOf (roster (t .head)) a))
+unfolding noTransport differ admits
+no-transport-is t a = refl
+
+pub no-place-is : (t : Tables) (a : ℕ) → noPlace t a ≡ not (admits Place (kindOf (roster (t .head)) a))
+unfolding noPlace admits
+no-place-is t a = go (ltb transport (kindOf (roster (t .head)) a)) refl
+  where
+    go : (b : Bool) → ltb transport (kindOf (roster (t .head)) a) ≡ b → leb (kindOf (roster (t .head)) a) transport ≡ not b
+    go true e = lt-leb (kindOf (roster (t .head)) a) transport (ltb-true transport (kindOf (roster (t .head)) a) e)
+    go false e = le-leb (kindOf (roster (t .head)) a) transport (ltb-false transport (kindOf (roster (t .head)) a) e)
+
+pub no-port-is : (t : Tables) (a : ℕ) → noPort t a ≡ not (admits Port (kindOf (roster (t .head)) a))
+unfolding noPort differ admits
+no-port-is t a = refl
+
+pub unknown-is : (ss : List Slot) (list : List ℕ) (k : ℕ) → unknown ss list k ≡ not (admits Any (kindOf ss (address list k)))
+unfolding unknown differ admits
+unknown-is ss list k = go (eqb (kindOf ss (address list k)) 0)
+  where
+    go : (b : Bool) → b ≡ not (not b)
+    go true = refl
+    go false = refl
+
+-- such a test b, after the look-up
+module _ (ts : Types) (ss : List Slot) (a : ℕ) (b : Bool) (asks : b ≡ not (admits ts (kindOf ss a))) (f : Found) (is : f ≡ found ts ss a) where
+  pub passes : (p : ℕ) → f ≡ At p → b ≡ false
+  passes p e = asks ∙ ap not (at-admits ts ss a f is p e)
+
+  pub fails : f ≡ Nothing → b ≡ true
+  fails e = asks ∙ ap not (nothing-admits ts ss a f is e)
 
 -- ---- the turns of the search: the first p places are passed
 
 pub record Searching (ss : List Slot) (a p : ℕ) : Type 0 where
   pub far : p ≤ length ss
-  pub rest : placeOf ss a ≡ p + placeOf (drop p ss) a
+  pub place : placeOf ss a ≡ p + placeOf (drop p ss) a
+  pub kind : kindOf ss a ≡ kindOf (drop p ss) a
 
 pub search-begins : (ss : List Slot) (a : ℕ) → Searching ss a 0
-search-begins ss a = record { far = omega arith; rest = omega arith }
+search-begins ss a = record { far = omega arith; place = omega arith; kind = refl }
 
 module _ (ss : List Slot) (a p : ℕ) (at : Searching ss a p) where
   module _ (s : Declared) (is : s ≡ slotAt ss p) (h : p < length ss) where
@@ -83,21 +196,23 @@ module _ (ss : List Slot) (a p : ℕ) (at : Searching ss a p) where
     unfolding slotAt
     here = ap (λ (x : Declared). x .address) is
 
-    pub search-hits : s .address ≡ a → At p ≡ found ss a
-    unfolding found placeOf addressAt when
-    search-hits t =
-        let e : placeOf ss a ≡ p + 0 = at .rest ∙ rw (drop-cons ss p noSlot h, eq-eqb (addressAt ss p) a (sym here ∙ t)) in
+    pub search-hits : s .address ≡ a → (ts : Types) (f : Found) → f ≡ when (admits ts (s .kind)) (At p) Nothing → f ≡ found ts ss a
+    unfolding found placeOf addressAt slotAt when
+    search-hits t ts f w =
+        let e : placeOf ss a ≡ p + 0 = at .place ∙ rw (drop-cons ss p noSlot h, eq-eqb (addressAt ss p) a (sym here ∙ t)) in
         let d : placeOf ss a ≡ p = omega arith in
-        rw (d, lt-ltb p (length ss) h)
+        let k : s .kind ≡ kindOf ss a = ap (λ (x : Declared). x .kind) is ∙ rw (← d) (kind-place ss a) in
+        w ∙ rw (k, d)
 
     pub search-on : (s .address ≡ a → ⊥) → Searching ss a (p + 1)
-    unfolding placeOf addressAt when
+    unfolding placeOf kindOf addressAt when
     search-on t =
-        let e : placeOf ss a ≡ p + suc (placeOf (drop (suc p) ss) a) = at .rest ∙ rw (drop-cons ss p noSlot h, ne-eqb (addressAt ss p) a (λ q. t (here ∙ q))) in
-        record { far = omega arith; rest = rw add-one (omega arith) }
+        let n = ne-eqb (addressAt ss p) a (λ q. t (here ∙ q)) in
+        let e : placeOf ss a ≡ p + suc (placeOf (drop (suc p) ss) a) = at .place ∙ rw (drop-cons ss p noSlot h, n) in
+        record { far = omega arith; place = rw add-one (omega arith); kind = rw add-one (at .kind ∙ rw (drop-cons ss p noSlot h, n)) }
 
-  pub search-ends : length ss ≤ p → Nothing ≡ found ss a
-  unfolding found placeOf when
-  search-ends h =
-      let e : placeOf ss a ≡ p + 0 = at .rest ∙ rw (drop-of-length-le ss h) in
-      rw (le-ltb (placeOf ss a) (length ss) (omega arith))
+  pub search-ends : length ss ≤ p → (ts : Types) → Nothing ≡ found ts ss a
+  unfolding found kindOf when
+  search-ends h ts =
+      let e : kindOf ss a ≡ 0 = at .kind ∙ rw (drop-of-length-le ss h) in
+      rw (e, admits-none ts)

@@ -10,7 +10,7 @@ use borrow.Author.Tests.{le-leb, lt-leb}
 use Rattle.rules.specs.Choice.{when}
 use Rattle.rules.specs.Roster.{Range, insert, sorted}
 use Rattle.tables.specs.declared.Range.{Range as Declared}
-use Rattle.tables.specs.Ranges.{meaning, meant, noRange, settled}
+use Rattle.tables.specs.Ranges.{meaning, meant, noRange, inserted}
 
 -- ---- the meaning of a table that was read or changed at one place
 
@@ -84,48 +84,48 @@ on-four P (a ∷ b ∷ c ∷ []) e f = absurd (let z : ⊥ = omega arith in z)
 on-four P (a ∷ b ∷ c ∷ d ∷ []) e f = f a b c d
 on-four P (a ∷ b ∷ c ∷ d ∷ x ∷ xs) e f = absurd (let z : ⊥ = omega arith in z)
 
--- ---- the turns of the loop that settles the range at k
+-- ---- the turns of the loop that inserts the range at k
 
-pub record Settling (k : ℕ) (rs : List Declared) (r : Declared) (out : List Declared) (i : ℕ) : Type 0 where
+pub record Inserting (k : ℕ) (rs : List Declared) (r : Declared) (out : List Declared) (i : ℕ) : Type 0 where
   pub far : i ≤ 3
   pub four : length out ≡ 4
-  pub to-be : settled k (meant rs) ≡ take i (meant out) ++ insert (meaning r) (drop (suc i) (meant out))
+  pub to-be : inserted k (meant rs) ≡ take i (meant out) ++ insert (meaning r) (drop (suc i) (meant out))
 
 module _ (k : ℕ) (rs : List Declared) where
-  pub begins : length rs ≡ 4 → k < 4 → Settling k rs (getD rs k none) rs k
-  unfolding settled
+  pub begins : length rs ≡ 4 → k < 4 → Inserting k rs (getD rs k none) rs k
+  unfolding inserted
   begins e h = record { far = omega arith; four = e; to-be = rw (meant-at rs k none (omega arith)) }
 
-  module _ (r : Declared) (out : List Declared) (i : ℕ) (s : Settling k rs r out i) where
+  module _ (r : Declared) (out : List Declared) (i : ℕ) (s : Inserting k rs r out i) where
     next : i < 3 → suc i < length (meant out)
     next h = omega (arith, meant-length out, s .four)
 
     seen : i < 3 → getD (meant out) (suc i) noRange ≡ meaning (getD out (i + 1) none)
     seen h = rw add-one (meant-at out (suc i) none (omega (arith, s .four)))
 
-    onward : i < 3 → (x : Declared) → getD (meant out) (suc i) noRange ≡ meaning x → x .first < r .first → Settling k rs r (set out i x) (i + 1)
+    onward : i < 3 → (x : Declared) → getD (meant out) (suc i) noRange ≡ meaning x → x .first < r .first → Inserting k rs r (set out i x) (i + 1)
     onward h x e t =
         record {
           far = omega arith;
           four = length-set out i x ∙ s .four;
-          to-be = rw (meant-set out i x, add-one) (passed (meant out) (settled k (meant rs)) i (meaning r) (meaning x) (s .to-be) (next h) e t);
+          to-be = rw (meant-set out i x, add-one) (passed (meant out) (inserted k (meant rs)) i (meaning r) (meaning x) (s .to-be) (next h) e t);
         }
 
-    pub goes-on : i < 3 → getD out (i + 1) none .first < r .first → Settling k rs r (set out i (getD out (i + 1) none)) (i + 1)
+    pub goes-on : i < 3 → getD out (i + 1) none .first < r .first → Inserting k rs r (set out i (getD out (i + 1) none)) (i + 1)
     goes-on h t = onward h (getD out (i + 1) none) (seen h) t
 
-    pub stops : i < 3 → r .first ≤ getD out (i + 1) none .first → meant (set out i r) ≡ settled k (meant rs)
+    pub stops : i < 3 → r .first ≤ getD out (i + 1) none .first → meant (set out i r) ≡ inserted k (meant rs)
     stops h t =
         rw (meant-set out i r)
-        (placed (meant out) (settled k (meant rs)) i (meaning r) (meaning (getD out (i + 1) none)) (s .to-be) (next h) (seen h) t)
+        (placed (meant out) (inserted k (meant rs)) i (meaning r) (meaning (getD out (i + 1) none)) (s .to-be) (next h) (seen h) t)
 
-    pub ends : 3 ≤ i → meant (set out i r) ≡ settled k (meant rs)
+    pub ends : 3 ≤ i → meant (set out i r) ≡ inserted k (meant rs)
     ends h =
         let e = meant-length out in
         rw (meant-set out i r)
-        (placed-last (meant out) (settled k (meant rs)) i (meaning r) noRange (s .to-be) (omega (arith, s .four, s .far)) (omega (arith, s .four)))
+        (placed-last (meant out) (inserted k (meant rs)) i (meaning r) noRange (s .to-be) (omega (arith, s .four, s .far)) (omega (arith, s .four)))
 
 -- three insertions put four in order
-pub sorted-four : (l : List Range) → length l ≡ 4 → settled 0 (settled 1 (settled 2 l)) ≡ sorted l
-unfolding settled sorted insert
-sorted-four l e = on-four (λ (k : List Range). settled 0 (settled 1 (settled 2 k)) ≡ sorted k) l e (λ a b c d. refl)
+pub sorted-four : (l : List Range) → length l ≡ 4 → inserted 0 (inserted 1 (inserted 2 l)) ≡ sorted l
+unfolding inserted sorted insert
+sorted-four l e = on-four (λ (k : List Range). inserted 0 (inserted 1 (inserted 2 k)) ≡ sorted k) l e (λ a b c d. refl)

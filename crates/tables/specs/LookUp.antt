@@ -1,17 +1,32 @@
--- What a look-up answers, said of the roster alone. Assumes nothing.
+-- What a look-up answers, said of the elements alone. Assumes nothing.
 use Prim.Native.Nat.{ℕ}
 use mathlib.Core.List.{List}
-use lib.ListN.{length, getD}
-use lib.Dec.{ltb}
-use Rattle.rules.specs.Choice.{when}
-use Rattle.rules.specs.Roster.{Slot, placeOf, kindAt}
+use mathlib.Core.Bool.{Bool}
+use lib.ListN.{getD}
+use lib.Dec.{eqb, ltb}
+use Rattle.rules.specs.Choice.{when, differ}
+use Rattle.rules.specs.Roster.{Slot, placeOf, kindAt, kindOf, transport, port}
 use Rattle.tables.specs.declared.Slot.{Slot as Declared}
+use Rattle.tables.specs.declared.Types.{Types}
+use Rattle.tables.specs.declared.Types.the-variants.{Any, Transport, Place, Port}
 use Rattle.tables.specs.declared.Found.{Found}
 use Rattle.tables.specs.declared.Found.the-variants.{At, Nothing}
 
--- the place of an address, if it is an element's
-unfoldable pub found : List Slot → ℕ → Found
-found ss a = when (ltb (placeOf ss a) (length ss)) (At (placeOf ss a)) Nothing
+-- an element of type k is looked for: any element; a transport; one that is no transport; an import/export element
+unfoldable pub admits : Types → ℕ → Bool
+admits Any k = differ k 0
+admits Transport k = eqb k transport
+admits Place k = ltb transport k
+admits Port k = eqb k port
+
+-- the place of an address, if it is an element's of these types
+unfoldable pub found : Types → List Slot → ℕ → Found
+found ts ss a = when (admits ts (kindOf ss a)) (At (placeOf ss a)) Nothing
+
+-- by cases on a look-up's answer
+unfoldable pub onFound : {A : Type 0} → Found → (ℕ → A) → A → A
+onFound (At p) f y = f p
+onFound Nothing f y = y
 
 abbrev pub noSlot : Slot
 noSlot = record { kind = 0; address = 0; place = 0 }

@@ -1,8 +1,12 @@
--- What the code's ranges stand for: those of the rules, and the roster that they make. Assumes nothing.
-use Prim.Native.Nat.{ℕ, suc}
+-- What the code's ranges stand for: those of the rules, and the elements that they make. Assumes nothing.
+use Prim.Native.Nat.{ℕ, suc, _≤_}
+use mathlib.Core.Path.{_≡_}
 use mathlib.Core.List.{List, [], _∷_, map, _++_}
+use mathlib.Core.Bool.{Bool}
 use lib.ListN.{getD, take, drop}
-use Rattle.rules.specs.Roster.{Range, Slot, insert, sorted, spread}
+use lib.Dec.{eqb}
+use Rattle.rules.specs.Choice.{allOf, differ}
+use Rattle.rules.specs.Roster.{Range, Slot, ranges, insert, sorted, spread, transport}
 use Rattle.tables.specs.declared.Range.{Range as Declared}
 
 abbrev pub meaning : Declared → Range
@@ -12,18 +16,30 @@ meaning r = record { kind = r .kind; first = r .first; count = r .count }
 unfoldable pub meant : List Declared → List Range
 meant rs = map meaning rs
 
--- every element of the ranges, ascending by address
-unfoldable pub rosterOf : List Declared → List Slot
-rosterOf rs = spread 0 (sorted (meant rs))
+-- the runs of a head's table: its ranges by first address
+abbrev pub Runs : List Declared → List ℕ → Type 0
+Runs runs head = meant runs ≡ sorted (ranges head)
+
+-- every element of the runs, one run after the other
+unfoldable pub laid : List Declared → List Slot
+laid runs = spread 0 (meant runs)
 
 abbrev pub noRange : Range
 noRange = record { kind = 0; first = 0; count = 0 }
 
 -- the range at k put to its place among those behind it
-unfoldable pub settled : ℕ → List Range → List Range
-settled k rs = take k rs ++ insert (getD rs k noRange) (drop (suc k) rs)
+unfoldable pub inserted : ℕ → List Range → List Range
+inserted k rs = take k rs ++ insert (getD rs k noRange) (drop (suc k) rs)
+
+-- the range holds transports
+unfoldable pub leads : Range → Bool
+leads r = allOf (eqb (r .kind) transport ∷ differ (r .count) 0 ∷ [])
 
 -- a property of the type of each range
-unfoldable pub Types : (ℕ → Type 0) → List Range → Type 0
-Types P [] = Unit {0}
-Types P (r ∷ rs) = P (r .kind) × Types P rs
+unfoldable pub Kinds : (ℕ → Type 0) → List Range → Type 0
+Kinds P [] = Unit {0}
+Kinds P (r ∷ rs) = P (r .kind) × Kinds P rs
+
+-- each of the runs has a type
+abbrev pub Typed : List Declared → Type 0
+Typed runs = Kinds (λ k. 1 ≤ k) (meant runs)

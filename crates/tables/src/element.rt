@@ -4,23 +4,11 @@ ghost use Prim.Native.Nat.{_+_, _≤_};
 ghost use lib.ListN.{length};
 ghost use Rattle.rules.specs.Tables.{elementSize, elementAt, places, volume, source, holder, id, mark, zeroByte, filled, heldAt};
 
-pub const SIZE: usize = 8;
-
-const SOURCE: usize = 2;
-
-const HOLDER: usize = 4;
-
-const ID: usize = 5;
-
-const MARK: usize = 6;
-
-const ZERO: usize = 7;
-
 // How many records the table holds.
 pub fn places(elements: &[u8]) -> usize
     ensures { λ r. ⌜ r ≡ places (now (elements .entry)) ⌝ }
 {
-    elements.len() / SIZE
+    elements.len() / layout::ELEMENT_SIZE
 }
 
 // "volume number (2; 0 empty)"
@@ -28,7 +16,7 @@ pub fn volume(elements: &[u8], place: usize) -> u16
     requires { ⌜ elementAt place + elementSize ≤ length (now elements) ⌝ }
     ensures { λ r. ⌜ r ≡ volume (now (elements .entry)) place ⌝ }
 {
-    wire::word_at(elements, SIZE * place)
+    wire::word_at(elements, layout::ELEMENT_SIZE * place)
 }
 
 // "source address (2; 0 none)"
@@ -36,7 +24,7 @@ pub fn source(elements: &[u8], place: usize) -> u16
     requires { ⌜ elementAt place + elementSize ≤ length (now elements) ⌝ }
     ensures { λ r. ⌜ r ≡ source (now (elements .entry)) place ⌝ }
 {
-    wire::word_at(elements, SIZE * place + SOURCE)
+    wire::word_at(elements, layout::ELEMENT_SIZE * place + layout::SOURCE)
 }
 
 // "holder (1)"
@@ -44,7 +32,7 @@ pub fn holder(elements: &[u8], place: usize) -> u8
     requires { ⌜ elementAt place + elementSize ≤ length (now elements) ⌝ }
     ensures { λ r. ⌜ r ≡ holder (now (elements .entry)) place ⌝ }
 {
-    elements[SIZE * place + HOLDER]
+    elements[layout::ELEMENT_SIZE * place + layout::HOLDER]
 }
 
 // "reservation id (1)"
@@ -52,7 +40,7 @@ pub fn id(elements: &[u8], place: usize) -> u8
     requires { ⌜ elementAt place + elementSize ≤ length (now elements) ⌝ }
     ensures { λ r. ⌜ r ≡ id (now (elements .entry)) place ⌝ }
 {
-    elements[SIZE * place + ID]
+    elements[layout::ELEMENT_SIZE * place + layout::ID]
 }
 
 // "hand mark (1)"
@@ -60,7 +48,7 @@ pub fn mark(elements: &[u8], place: usize) -> u8
     requires { ⌜ elementAt place + elementSize ≤ length (now elements) ⌝ }
     ensures { λ r. ⌜ r ≡ mark (now (elements .entry)) place ⌝ }
 {
-    elements[SIZE * place + MARK]
+    elements[layout::ELEMENT_SIZE * place + layout::MARK]
 }
 
 // "zero (1)"
@@ -68,7 +56,7 @@ pub fn zero_byte(elements: &[u8], place: usize) -> u8
     requires { ⌜ elementAt place + elementSize ≤ length (now elements) ⌝ }
     ensures { λ r. ⌜ r ≡ zeroByte (now (elements .entry)) place ⌝ }
 {
-    elements[SIZE * place + ZERO]
+    elements[layout::ELEMENT_SIZE * place + layout::ZERO]
 }
 
 // Volume, source and mark of the element at a place.
@@ -76,10 +64,10 @@ pub fn fill(elements: &mut [u8], place: usize, volume: u16, source: u16, mark: u
     requires { ⌜ elementAt place + elementSize ≤ length (now elements) ⌝ }
     ensures { λ _. ⌜ now (elements .exit) ≡ filled (now (elements .entry)) place volume source mark ⌝ }
 {
-    let at = SIZE * place;
+    let at = layout::ELEMENT_SIZE * place;
     wire::put_word(elements, at, volume);
-    wire::put_word(elements, at + SOURCE, source);
-    elements[at + MARK] = mark;
+    wire::put_word(elements, at + layout::SOURCE, source);
+    elements[at + layout::MARK] = mark;
 }
 
 // Holder and id of the element at a place.
@@ -87,5 +75,10 @@ pub fn hold(elements: &mut [u8], place: usize, host: u8, id: u8)
     requires { ⌜ elementAt place + elementSize ≤ length (now elements) ⌝ }
     ensures { λ _. ⌜ now (elements .exit) ≡ heldAt host id place (now (elements .entry)) ⌝ }
 {
-    wire::put_two(elements, SIZE * place + HOLDER, host, id);
+    wire::put_two(
+        elements,
+        layout::ELEMENT_SIZE * place + layout::HOLDER,
+        host,
+        id,
+    );
 }

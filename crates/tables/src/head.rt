@@ -2,24 +2,14 @@
 ghost use mathlib.Core.Path.{_≡_};
 ghost use Prim.Native.Nat.{_+_, _≤_};
 ghost use lib.ListN.{length};
-ghost use Rattle.rules.specs.Tables.{headSize, hosts, hostAt, unit, mask, key, asc, ascq, attention, attentionq, unitHeld, masked, sensed, attended};
-
-const UNIT: usize = 16;
-
-const MASK: usize = 17;
-
-const HOSTS: usize = 13;
-
-const RECORD: usize = 5;
-
-const ATTENTION: usize = 3;
+ghost use Rattle.rules.specs.Tables.{headSize, hosts, unit, mask, key, asc, ascq, attention, attentionq, unitHeld, masked, sensed, attended};
 
 // "Byte 16: unit holder"
 pub fn unit(head: &[u8]) -> u8
     requires { ⌜ headSize ≤ length (now head) ⌝ }
     ensures { λ r. ⌜ r ≡ unit (now (head .entry)) ⌝ }
 {
-    head[UNIT]
+    head[layout::UNIT]
 }
 
 // "Byte 17: prevent mask"
@@ -27,14 +17,7 @@ pub fn mask(head: &[u8]) -> u8
     requires { ⌜ headSize ≤ length (now head) ⌝ }
     ensures { λ r. ⌜ r ≡ mask (now (head .entry)) ⌝ }
 {
-    head[MASK]
-}
-
-// "Then for each host 5 bytes": where a host's begin.
-fn host_at(host: u8) -> usize
-    ensures { λ r. ⌜ r ≡ hostAt host ⌝ }
-{
-    HOSTS + RECORD * (host as usize)
+    head[layout::MASK]
 }
 
 // "sense key, ASC, ASCQ (zeros: none)"
@@ -43,7 +26,7 @@ pub fn key(head: &[u8], host: u8) -> u8
     requires { ⌜ host ≤ hosts ⌝ }
     ensures { λ r. ⌜ r ≡ key (now (head .entry)) host ⌝ }
 {
-    head[host_at(host)]
+    head[layout::host_at(host)]
 }
 
 pub fn asc(head: &[u8], host: u8) -> u8
@@ -51,7 +34,7 @@ pub fn asc(head: &[u8], host: u8) -> u8
     requires { ⌜ host ≤ hosts ⌝ }
     ensures { λ r. ⌜ r ≡ asc (now (head .entry)) host ⌝ }
 {
-    head[1 + host_at(host)]
+    head[1 + layout::host_at(host)]
 }
 
 pub fn ascq(head: &[u8], host: u8) -> u8
@@ -59,7 +42,7 @@ pub fn ascq(head: &[u8], host: u8) -> u8
     requires { ⌜ host ≤ hosts ⌝ }
     ensures { λ r. ⌜ r ≡ ascq (now (head .entry)) host ⌝ }
 {
-    head[2 + host_at(host)]
+    head[2 + layout::host_at(host)]
 }
 
 // "attention ASC, ASCQ (zeros: none)"
@@ -68,7 +51,7 @@ pub fn attention(head: &[u8], host: u8) -> u8
     requires { ⌜ host ≤ hosts ⌝ }
     ensures { λ r. ⌜ r ≡ attention (now (head .entry)) host ⌝ }
 {
-    head[ATTENTION + host_at(host)]
+    head[layout::attention_at(host)]
 }
 
 pub fn attentionq(head: &[u8], host: u8) -> u8
@@ -76,7 +59,7 @@ pub fn attentionq(head: &[u8], host: u8) -> u8
     requires { ⌜ host ≤ hosts ⌝ }
     ensures { λ r. ⌜ r ≡ attentionq (now (head .entry)) host ⌝ }
 {
-    head[1 + (ATTENTION + host_at(host))]
+    head[1 + layout::attention_at(host)]
 }
 
 // The unit's holder.
@@ -84,7 +67,7 @@ pub fn hold_unit(head: &mut [u8], host: u8)
     requires { ⌜ headSize ≤ length (now head) ⌝ }
     ensures { λ _. ⌜ now (head .exit) ≡ unitHeld (now (head .entry)) host ⌝ }
 {
-    head[UNIT] = host;
+    head[layout::UNIT] = host;
 }
 
 // The prevent mask.
@@ -92,7 +75,7 @@ pub fn set_mask(head: &mut [u8], mask: u8)
     requires { ⌜ headSize ≤ length (now head) ⌝ }
     ensures { λ _. ⌜ now (head .exit) ≡ masked (now (head .entry)) mask ⌝ }
 {
-    head[MASK] = mask;
+    head[layout::MASK] = mask;
 }
 
 // The host's sense, in its record where it stands.
@@ -101,7 +84,7 @@ pub fn note(head: &mut [u8], host: u8, key: u8, asc: u8, ascq: u8)
     requires { ⌜ host ≤ hosts ⌝ }
     ensures { λ _. ⌜ now (head .exit) ≡ sensed (now (head .entry)) host key asc ascq ⌝ }
 {
-    record::note(head, host_at(host), key, asc, ascq);
+    record::note(head, layout::host_at(host), key, asc, ascq);
 }
 
 // The host has no sense.
@@ -110,7 +93,7 @@ pub fn wipe(head: &mut [u8], host: u8)
     requires { ⌜ host ≤ hosts ⌝ }
     ensures { λ _. ⌜ now (head .exit) ≡ sensed (now (head .entry)) host 0 0 0 ⌝ }
 {
-    record::wipe(head, host_at(host));
+    record::wipe(head, layout::host_at(host));
 }
 
 // The host's attention; zeros clear it.
@@ -119,5 +102,5 @@ pub fn attend(head: &mut [u8], host: u8, asc: u8, ascq: u8)
     requires { ⌜ host ≤ hosts ⌝ }
     ensures { λ _. ⌜ now (head .exit) ≡ attended (now (head .entry)) host asc ascq ⌝ }
 {
-    wire::put_two(head, ATTENTION + host_at(host), asc, ascq);
+    wire::put_two(head, layout::attention_at(host), asc, ascq);
 }

@@ -7,29 +7,11 @@ pub mod mask;
 ghost use mathlib.Core.Path.{_≡_};
 ghost use Prim.Native.Nat.{_+_, _≤_, _<_};
 ghost use lib.ListN.{length};
+ghost use Rattle.rules.specs.Choice.{when};
 ghost use Rattle.rules.specs.Tables.{headSize, volumes as volumesOf};
-ghost use Rattle.rules.specs.Roster.{range, ranges as rangesOf, roster, sorted as sortedOf, spread, kindAt, firstTransport};
-ghost use Rattle.tables.specs.Ranges.{meaning, meant, rosterOf, settled};
-ghost use Rattle.tables.specs.LookUp.{found, slotAt};
-
-// The layout's sizes, and the type codes.
-pub const HEAD_SIZE: usize = 58;
-
-pub const HOSTS: u8 = 8;
-
-pub const TAG_SIZE: usize = 36;
-
-pub const TRANSPORT: u8 = 1;
-
-pub const STORAGE: u8 = 2;
-
-pub const PORT: u8 = 3;
-
-pub const DRIVE: u8 = 4;
-
-const RANGE_SIZE: usize = 4;
-
-const COUNT: usize = 2;
+ghost use Rattle.rules.specs.Roster.{range, ranges as rangesOf, sorted as sortedOf, firstTransport};
+ghost use Rattle.tables.specs.Ranges.{meaning, meant, laid, inserted, leads, Runs};
+ghost use Rattle.tables.specs.LookUp.{admits, found, slotAt};
 
 // "each first address and count": of one type
 pub struct Range {
@@ -42,6 +24,14 @@ pub struct Range {
 pub struct Slot {
     pub kind: u8,
     pub address: u32,
+}
+
+// Of which types an element is looked for: any, a transport, one that is no transport, an import/export element.
+pub enum Types {
+    Any,
+    Transport,
+    Place,
+    Port,
 }
 
 // What looking an address up answers.
@@ -58,8 +48,8 @@ fn range_at(head: &[u8], k: usize) -> Range
 {
     Range {
         kind: (k as u8) + 1,
-        first: wire::word_at(head, RANGE_SIZE * k),
-        count: wire::word_at(head, RANGE_SIZE * k + COUNT),
+        first: wire::word_at(head, layout::RANGE_SIZE * k),
+        count: wire::word_at(head, layout::RANGE_SIZE * k + layout::RANGE_COUNT),
     }
 }
 
@@ -77,9 +67,9 @@ pub fn ranges(head: &[u8]) -> [Range; 4]
 }
 
 // The range at k goes to its place among those behind it, which are in order.
-fn settle(rs: [Range; 4], k: usize) -> [Range; 4]
+fn insert_at(rs: [Range; 4], k: usize) -> [Range; 4]
     requires { ⌜ k < 4 ⌝ }
-    ensures { λ r. ⌜ meant r ≡ settled k (meant rs) ⌝ }
+    ensures { λ r. ⌜ meant r ≡ inserted k (meant rs) ⌝ }
 {
     let mut out = rs;
     let r = rs[k];
@@ -97,33 +87,41 @@ fn settle(rs: [Range; 4], k: usize) -> [Range; 4]
     out
 }
 
-// The ranges by first address.
+// The ranges by first address: the runs of the element table.
 pub fn sorted(rs: [Range; 4]) -> [Range; 4]
     ensures { λ r. ⌜ meant r ≡ sortedOf (meant rs) ⌝ }
 {
-    settle(settle(settle(rs, 2), 1), 0)
+    insert_at(insert_at(insert_at(rs, 2), 1), 0)
 }
 
-// How many elements the ranges hold.
-pub fn total(rs: [Range; 4]) -> usize
-    ensures { λ r. ⌜ r ≡ length (rosterOf rs) ⌝ }
+// The runs of the head's ranges.
+pub fn runs(head: &[u8]) -> [Range; 4]
+    requires { ⌜ headSize ≤ length (now head) ⌝ }
+    ensures { λ r. ⌜ Runs r (now (head .entry)) ⌝ }
+{
+    sorted(ranges(head))
+}
+
+// How many elements the runs hold.
+pub fn total(runs: [Range; 4]) -> usize
+    ensures { λ r. ⌜ r ≡ length (laid runs) ⌝ }
     ensures { λ r. ⌜ r < 262144 ⌝ }
 {
-    let a = rs[0];
-    let b = rs[1];
-    let c = rs[2];
-    let d = rs[3];
+    let a = runs[0];
+    let b = runs[1];
+    let c = runs[2];
+    let d = runs[3];
     (a.count as usize) + (b.count as usize) + (c.count as usize) + (d.count as usize)
 }
 
-// The element at a place of ranges that stand one after the other; type 0 where there is none.
-fn slot_in(rs: [Range; 4], place: usize) -> Slot
-    ensures { λ r. ⌜ r ≡ slotAt (spread 0 (meant rs)) place ⌝ }
+// The element at a place of the runs; type 0 where there is none.
+fn slot_in(runs: [Range; 4], place: usize) -> Slot
+    ensures { λ r. ⌜ r ≡ slotAt (laid runs) place ⌝ }
 {
     let mut left = place;
     let mut k: usize = 0;
     while k < 4 {
-        let r = rs[k];
+        let r = runs[k];
         let count = r.count as usize;
         if left < count {
             return Slot {
@@ -140,48 +138,72 @@ fn slot_in(rs: [Range; 4], place: usize) -> Slot
     }
 }
 
-// The type of the element at a place; 0 where there is none.
-pub fn kind_at(rs: [Range; 4], place: usize) -> u8
-    ensures { λ r. ⌜ r ≡ kindAt (rosterOf rs) place ⌝ }
+// An element of this type is looked for.
+fn admits(types: Types, kind: u8) -> bool
+    ensures { λ r. ⌜ r ≡ admits types kind ⌝ }
 {
-    slot_in(sorted(rs), place).kind
+    match types {
+        Types::Any => kind != 0,
+        Types::Transport => kind == layout::TRANSPORT,
+        Types::Place => kind > layout::TRANSPORT,
+        Types::Port => kind == layout::PORT,
+    }
 }
 
-// The place of an address among the n elements of ranges in order: the table is searched record by record.
-fn search(order: [Range; 4], n: usize, address: u32) -> Found
-    requires { ⌜ n ≡ length (spread 0 (meant order)) ⌝ }
-    ensures { λ r. ⌜ r ≡ found (spread 0 (meant order)) address ⌝ }
+// The place of an element of a type, if it is one of those looked for.
+fn pick(types: Types, kind: u8, place: usize) -> Found
+    ensures { λ r. ⌜ r ≡ when (admits types kind) (Found.At place) Found.Nothing ⌝ }
 {
+    if admits(types, kind) {
+        return Found::At(place);
+    }
+    Found::Nothing
+}
+
+// The place of an address, if the element there is of these types: the table is searched once, record by record.
+pub fn find(runs: [Range; 4], address: u32, types: Types) -> Found
+    ensures { λ r. ⌜ r ≡ found types (laid runs) address ⌝ }
+{
+    let n = total(runs);
     let mut p: usize = 0;
     while p < n {
-        let s = slot_in(order, p);
+        let s = slot_in(runs, p);
         if s.address == address {
-            return Found::At(p);
+            return pick(types, s.kind, p);
         }
         p += 1;
     }
     Found::Nothing
 }
 
-// The place of an address in the element table.
-pub fn find(rs: [Range; 4], address: u32) -> Found
-    ensures { λ r. ⌜ r ≡ found (rosterOf rs) address ⌝ }
+// The range holds transports.
+fn leads(r: Range) -> bool
+    ensures { λ b. ⌜ b ≡ leads (meaning r) ⌝ }
 {
-    search(sorted(rs), total(rs), address)
+    if r.kind == layout::TRANSPORT {
+        return r.count != 0;
+    }
+    false
 }
 
-// "Transport 0 means the lowest-addressed one": the first of the transports' range, where there is one.
-pub fn first_transport(head: &[u8]) -> u16
-    requires { ⌜ headSize ≤ length (now head) ⌝ }
-    requires { ⌜ 1 ≤ range (now head) 0 .count ⌝ }
-    ensures { λ r. ⌜ r ≡ firstTransport (roster (now (head .entry))) ⌝ }
+// "Transport 0 means the lowest-addressed one": its address; 0 where there is none.
+pub fn first_transport(runs: [Range; 4]) -> u16
+    ensures { λ r. ⌜ r ≡ firstTransport (laid runs) ⌝ }
 {
-    wire::word_at(head, 0)
+    let mut k: usize = 0;
+    while k < 4 {
+        let r = runs[k];
+        if leads(r) {
+            return r.first;
+        }
+        k += 1;
+    }
+    0
 }
 
 // "Tags, 36 bytes for each volume number 1 to V": V.
 pub fn volumes(tags: &[u8]) -> usize
     ensures { λ r. ⌜ r ≡ volumesOf (now (tags .entry)) ⌝ }
 {
-    tags.len() / TAG_SIZE
+    tags.len() / layout::TAG_SIZE
 }

@@ -2,34 +2,61 @@
 
 use std::time::{Duration, Instant};
 
-const SAMPLES: usize = 80;
+pub const ROUNDS: usize = 301;
 /// Short, so that on a busy machine most samples are not interrupted.
-const SAMPLE: Duration = Duration::from_micros(400);
+const SAMPLE: Duration = Duration::from_micros(150);
 
-/// The best of many samples: what disturbs a sample only ever makes it longer.
-pub fn nanoseconds(mut call: impl FnMut()) -> f64 {
-    let mut calls = 1;
-    while best_of(3, calls, &mut call) < SAMPLE {
-        calls *= 2;
-    }
-    let best = best_of(SAMPLES, calls, &mut call);
-    best.as_secs_f64() * 1e9 / f64::from(calls)
+/// Nanoseconds per call of both, and how many times as long the one takes as the other.
+#[derive(Clone, Copy)]
+pub struct Times {
+    pub one: f64,
+    pub other: f64,
+    pub ratio: f64,
 }
 
-fn best_of(samples: usize, calls: u32, call: &mut impl FnMut()) -> Duration {
-    let sample = |_| {
-        let started = Instant::now();
-        for _ in 0..calls {
-            call();
+/// The medians of many rounds. In each round one is timed after the other, and the next round begins with the other
+/// one: what slows the machine down slows both down, and the ratio is that of one round. A closure makes as many
+/// calls as it returns.
+pub fn side_by_side(mut one: impl FnMut(u32) -> u32, mut other: impl FnMut(u32) -> u32) -> Times {
+    let times = (enough(&mut one), enough(&mut other));
+    let mut rounds = Vec::new();
+    for round in 0..ROUNDS {
+        if round % 2 == 0 {
+            let first = sample(&mut one, times.0);
+            rounds.push((first, sample(&mut other, times.1)));
+        } else {
+            let first = sample(&mut other, times.1);
+            rounds.push((sample(&mut one, times.0), first));
         }
-        started.elapsed()
-    };
-    (0..samples).map(sample).min().unwrap_or_default()
+    }
+    let median_of = |of: fn(&(f64, f64)) -> f64| median(rounds.iter().map(of).collect());
+    Times {
+        one: median_of(|round| round.0),
+        other: median_of(|round| round.1),
+        ratio: median_of(|round| round.0 / round.1),
+    }
 }
 
-/// The least of three measurements: what disturbs one of them adds to it.
-pub fn best_of_three(mut work: impl FnMut()) -> f64 {
-    (0..3)
-        .map(|_| nanoseconds(&mut work))
-        .fold(f64::INFINITY, f64::min)
+/// How many times fill a sample; finding out warms up, too.
+fn enough(calls: &mut impl FnMut(u32) -> u32) -> u32 {
+    let mut times = 1;
+    loop {
+        let started = Instant::now();
+        calls(times);
+        if started.elapsed() >= SAMPLE {
+            return times;
+        }
+        times *= 2;
+    }
+}
+
+fn sample(calls: &mut impl FnMut(u32) -> u32, times: u32) -> f64 {
+    let started = Instant::now();
+    let made = calls(times);
+    started.elapsed().as_secs_f64() * 1e9 / f64::from(made)
+}
+
+fn median(mut samples: Vec<f64>) -> f64 {
+    samples.sort_by(f64::total_cmp);
+    samples[samples.len() / 2]
 }

@@ -1,137 +1,88 @@
-//! The entries of the C interface.
+//! A table of entries behind the interface of the reference.
 
 use std::ptr::{null, null_mut};
 
-use reference::{Implementation, Request, Tables};
+use reference::{Entry, Implementation, Request, Tables};
 
-use crate::{EmptySlices, Reply};
+use crate::call_entry;
+use crate::entries::{Entries, Reply};
 
-macro_rules! declare_commands {
-    ($($name:ident),*) => {
-        extern "C" {
-            $(fn $name(
-                head: *mut u8, head_len: usize,
-                elements: *mut u8, elements_len: usize,
-                tags: *const u8, tags_len: usize,
-                blank: *const u8, blank_len: usize,
-                host: u32,
-                block: *const u8, block_len: usize,
-                parameters: *const u8, parameters_len: usize,
-                answer: *mut u8, answer_len: usize,
-            ) -> Reply;)*
-        }
-    };
+/// What is passed for a slice of no bytes.
+#[derive(Clone, Copy, Debug, PartialEq, Eq)]
+pub enum EmptySlices {
+    /// A pointer that is not null.
+    Pointer,
+    /// A null pointer.
+    Null,
 }
 
-macro_rules! declare_events {
-    ($($name:ident($($argument:ident),*)),*) => {
-        extern "C" {
-            $(fn $name(
-                head: *mut u8, head_len: usize,
-                elements: *mut u8, elements_len: usize,
-                tags: *const u8, tags_len: usize,
-                blank: *const u8, blank_len: usize,
-                $($argument: u32),*
-            ) -> Reply;)*
-        }
-    };
-}
-
-declare_commands!(
-    smc_command,
-    smc_test_unit_ready,
-    smc_request_sense,
-    smc_reserve,
-    smc_release,
-    smc_prevent_allow,
-    smc_move_medium,
-    smc_exchange_medium,
-    smc_read_element_status
-);
-
-declare_events!(
-    smc_import(address, volume),
-    smc_export(address),
-    smc_reset()
-);
-
-/// The core as the front end calls it.
-pub(crate) struct Core {
-    pub(crate) empty: EmptySlices,
-}
-
-impl Core {
-    fn read(&self, bytes: &[u8]) -> *const u8 {
-        match self.empty {
+impl EmptySlices {
+    /// The pointer that is passed for a slice.
+    #[inline(always)]
+    pub fn read(self, bytes: &[u8]) -> *const u8 {
+        match self {
             EmptySlices::Null if bytes.is_empty() => null(),
             _ => bytes.as_ptr(),
         }
     }
 
-    fn write(&self, bytes: &mut [u8]) -> *mut u8 {
-        match self.empty {
+    /// The pointer that is passed for a slice that may be written.
+    #[inline(always)]
+    pub fn write(self, bytes: &mut [u8]) -> *mut u8 {
+        match self {
             EmptySlices::Null if bytes.is_empty() => null_mut(),
             _ => bytes.as_mut_ptr(),
         }
     }
 }
 
-macro_rules! commands {
-    ($($method:ident => $name:ident),*) => {
-        $(fn $method(&self, tables: Tables, request: Request) -> reference::Reply {
-            // SAFETY: each pointer comes from a slice of the length beside it that lives through the call,
-            // and the borrows keep the slices from overlapping.
-            let reply = unsafe {
-                $name(
-                    self.write(tables.head), tables.head.len(),
-                    self.write(tables.elements), tables.elements.len(),
-                    self.read(tables.tags), tables.tags.len(),
-                    self.read(tables.blank), tables.blank.len(),
-                    request.host,
-                    self.read(request.block), request.block.len(),
-                    self.read(request.parameters), request.parameters.len(),
-                    self.write(request.answer), request.answer.len(),
-                )
-            };
-            reply.into()
-        })*
-    };
+impl Entries {
+    /// A command by its entry. In line, so that nothing else is timed where this is.
+    #[inline(always)]
+    pub fn enter(
+        &self,
+        entry: Entry,
+        empty: EmptySlices,
+        tables: Tables,
+        request: Request,
+    ) -> Reply {
+        call_entry!(
+            self.commands[entry as usize],
+            empty,
+            tables,
+            request.host,
+            empty.read(request.block),
+            request.block.len(),
+            empty.read(request.parameters),
+            request.parameters.len(),
+            empty.write(request.answer),
+            request.answer.len()
+        )
+    }
 }
 
-macro_rules! events {
-    ($($method:ident($($argument:ident),*) => $name:ident),*) => {
-        $(fn $method(&self, tables: Tables, $($argument: u32),*) -> reference::Reply {
-            // SAFETY: as for the commands.
-            let reply = unsafe {
-                $name(
-                    self.write(tables.head), tables.head.len(),
-                    self.write(tables.elements), tables.elements.len(),
-                    self.read(tables.tags), tables.tags.len(),
-                    self.read(tables.blank), tables.blank.len(),
-                    $($argument),*
-                )
-            };
-            reply.into()
-        })*
-    };
+/// Linked code as the front end calls it.
+#[derive(Clone, Copy)]
+pub struct Linked {
+    pub entries: &'static Entries,
+    pub empty: EmptySlices,
 }
 
-impl Implementation for Core {
-    commands!(
-        command => smc_command,
-        test_unit_ready => smc_test_unit_ready,
-        request_sense => smc_request_sense,
-        reserve => smc_reserve,
-        release => smc_release,
-        prevent_allow => smc_prevent_allow,
-        move_medium => smc_move_medium,
-        exchange_medium => smc_exchange_medium,
-        read_element_status => smc_read_element_status
-    );
+impl Implementation for Linked {
+    fn enter(&self, entry: Entry, tables: Tables, request: Request) -> reference::Reply {
+        let reply = self.entries.enter(entry, self.empty, tables, request);
+        reply.into()
+    }
 
-    events!(
-        import(address, volume) => smc_import,
-        export(address) => smc_export,
-        reset() => smc_reset
-    );
+    fn import(&self, tables: Tables, address: u32, volume: u32) -> reference::Reply {
+        call_entry!(self.entries.import, self.empty, tables, address, volume).into()
+    }
+
+    fn export(&self, tables: Tables, address: u32) -> reference::Reply {
+        call_entry!(self.entries.export, self.empty, tables, address).into()
+    }
+
+    fn reset(&self, tables: Tables) -> reference::Reply {
+        call_entry!(self.entries.reset, self.empty, tables).into()
+    }
 }

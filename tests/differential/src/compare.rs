@@ -3,39 +3,36 @@
 use std::fmt::Write;
 use std::hint::black_box;
 
-use reference::{Implementation, Reply, Tables};
+use reference::{Implementation, Reply, TableBytes, Tables, TABLES};
 
 use crate::call::{hex, Call};
 use crate::guarded::{Guarded, MARGIN};
-use crate::scene::TableBytes;
 
-const SLICES: [&str; 7] = [
-    "head",
-    "elements",
-    "tags",
-    "blank",
-    "block",
-    "parameters",
-    "answer",
-];
+/// What is lent behind the tables.
+const REQUEST: [&str; 3] = ["block", "parameters", "answer"];
 
 /// How a call ended: the reply and every lent byte.
 pub struct Made {
     pub reply: Reply,
-    slices: [Guarded; 7],
+    tables: [Guarded; TABLES.len()],
+    request: [Guarded; REQUEST.len()],
 }
 
 impl Made {
     pub fn head(&self) -> &[u8] {
-        self.slices[0].content()
+        self.tables[0].content()
     }
 
     pub fn elements(&self) -> &[u8] {
-        self.slices[1].content()
+        self.tables[1].content()
     }
 
     pub fn answer(&self) -> &[u8] {
-        self.slices[6].content()
+        self.request[2].content()
+    }
+
+    fn slices(&self) -> impl Iterator<Item = &Guarded> {
+        self.tables.iter().chain(&self.request)
     }
 }
 
@@ -46,28 +43,23 @@ pub fn make(
     margin: [u8; MARGIN],
 ) -> Made {
     let (block, parameters) = call.lent();
-    let mut slices = [
-        &before.head,
-        &before.elements,
-        &before.tags,
-        &before.blank,
-        block,
-        parameters,
-        call.answer(),
-    ]
-    .map(|content| Guarded::new(content, margin));
-    let [head, elements, tags, blank, block, parameters, answer] = &mut slices;
-    let tables = Tables {
-        head: head.content_mut(),
-        elements: elements.content_mut(),
-        tags: tags.content(),
-        blank: blank.content(),
-    };
+    let mut tables = before
+        .clone()
+        .each()
+        .map(|content| Guarded::new(content, margin));
+    let mut request =
+        [block, parameters, call.answer()].map(|content| Guarded::new(content, margin));
+    let [block, parameters, answer] = &mut request;
     let lent = (block.content(), parameters.content());
-    let reply = call.make(implementation, tables, lent, answer.content_mut());
+    let on = Tables::of(tables.each_mut().map(Guarded::content_mut));
+    let reply = call.make(implementation, on, lent, answer.content_mut());
     // Foreign code may have written where only reading was allowed; the bytes are looked at afresh.
-    black_box(&mut slices);
-    Made { reply, slices }
+    black_box((&mut tables, &mut request));
+    Made {
+        reply,
+        tables,
+        request,
+    }
 }
 
 /// One line for each field or slice that differs; none where the two agree.
@@ -90,9 +82,9 @@ pub fn differences(expected: &Made, found: &Made) -> Vec<String> {
             lines.push(format!("{name}: expected {expected}, found {found}"));
         }
     }
-    for (at, name) in SLICES.into_iter().enumerate() {
-        let found = &found.slices[at];
-        lines.extend(slice_difference(name, &expected.slices[at], found));
+    let names = TABLES.into_iter().chain(REQUEST);
+    for (name, (expected, found)) in names.zip(expected.slices().zip(found.slices())) {
+        lines.extend(slice_difference(name, expected, found));
         if !found.margins_kept() {
             lines.push(format!("{name}: bytes beside the slice were written"));
         }
@@ -139,12 +131,9 @@ pub fn describe(before: &TableBytes, call: &Call, expected: &Made, found: &Made)
     }
     let tags = before.tags.len();
     let _ = writeln!(text, "  tags ({tags} bytes): V is {}", tags / 36);
-    let _ = writeln!(
-        text,
-        "  blank ({}): {}",
-        before.blank.len(),
-        hex(&before.blank)
-    );
+    for (name, table) in TABLES.into_iter().zip(before.clone().each()).skip(3) {
+        let _ = writeln!(text, "  {name} ({}): {}", table.len(), hex(table));
+    }
     let _ = writeln!(text, "  expected {:?}", expected.reply);
     let _ = writeln!(text, "  found    {:?}", found.reply);
     for line in differences(expected, found) {

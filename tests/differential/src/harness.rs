@@ -2,16 +2,17 @@
 
 use std::time::{Duration, Instant};
 
-use reference::{Implementation, Reply};
+use reference::{Implementation, Reply, TableBytes};
 
 use crate::call::Call;
 use crate::compare::{describe, differences, make, Made};
 use crate::guarded::MARGIN;
 use crate::random::Random;
-use crate::scene::TableBytes;
 use crate::tally::Tally;
 
 const MOST_SHOWN: usize = 5;
+/// A run that breaks off this often is over.
+const MOST_BROKEN_OFF: usize = 20;
 
 /// An implementation to be compared with what is expected.
 pub struct Subject<'a> {
@@ -36,6 +37,8 @@ pub struct Report {
     pub first_difference: Option<usize>,
     /// The shortest few differences in readable form.
     pub shown: Vec<String>,
+    /// The scenarios that could not be gone through, and why.
+    pub broken_off: Vec<String>,
     pub tally: Tally,
 }
 
@@ -67,7 +70,15 @@ impl<'a> Harness<'a> {
     pub fn is_done(&self) -> bool {
         let stopped =
             self.limits.stop_at_first_difference && self.report.first_difference.is_some();
-        stopped || self.report.calls >= self.limits.calls
+        let broken_off = self.report.broken_off.len() >= MOST_BROKEN_OFF;
+        stopped || broken_off || self.report.calls >= self.limits.calls
+    }
+
+    /// Notes that a scenario broke off with these words.
+    pub fn break_off(&mut self, scenario: &str, why: &str) {
+        let after = self.report.calls;
+        let text = format!("{scenario}, after {after} calls: {why}");
+        self.report.broken_off.push(text);
     }
 
     pub fn into_report(self) -> Report {
@@ -81,19 +92,22 @@ impl<'a> Harness<'a> {
             return Reply::default();
         }
         let margin = self.next_margin();
-        let expected = make(self.expected, tables, call, margin);
-        self.report.calls += 1;
+        let number = self.report.calls + 1;
         if self.limits.trace {
-            eprint!("call {}\n{call}", self.report.calls);
+            eprint!("call {number}\n{call}");
         }
+        let expected = make(self.expected, tables, call, margin);
         let mut agrees = true;
         for subject in self.subjects {
             let found = make(subject.implementation, tables, call, margin);
             if !differences(&expected, &found).is_empty() {
                 agrees = false;
-                self.note(subject.name, &describe(tables, call, &expected, &found));
+                let text = describe(tables, call, &expected, &found);
+                self.note(number, subject.name, &text);
             }
         }
+        // A call that breaks off is none of these.
+        self.report.calls = number;
         self.report.failed += usize::from(!agrees);
         self.report.tally.count(tables, call, &expected);
         self.progress.tell(self.report.calls, self.limits.calls);
@@ -114,8 +128,7 @@ impl<'a> Harness<'a> {
         margin
     }
 
-    fn note(&mut self, subject: &str, text: &str) {
-        let call = self.report.calls;
+    fn note(&mut self, call: usize, subject: &str, text: &str) {
         self.report.first_difference.get_or_insert(call);
         let shown = &mut self.report.shown;
         shown.push(format!("call {call}, {subject}, differs\n{text}"));

@@ -1,26 +1,7 @@
-//! The four tables as owned bytes, together with the places they lay out.
+//! Tables as owned bytes, together with the places they lay out.
 
 use reference::library::Kind;
-use reference::Tables;
-
-#[derive(Clone, Debug, Default, PartialEq, Eq)]
-pub struct TableBytes {
-    pub head: Vec<u8>,
-    pub elements: Vec<u8>,
-    pub tags: Vec<u8>,
-    pub blank: Vec<u8>,
-}
-
-impl TableBytes {
-    pub fn lend(&mut self) -> Tables<'_> {
-        Tables {
-            head: &mut self.head,
-            elements: &mut self.elements,
-            tags: &self.tags,
-            blank: &self.blank,
-        }
-    }
-}
+use reference::TableBytes;
 
 /// An element's address and kind; its place in the table is its place in [`Scene::places`].
 #[derive(Clone, Copy, Debug, PartialEq, Eq)]
@@ -53,12 +34,12 @@ impl Scene {
         ];
         places.extend((0x1000..=0x1003).map(|address| place(address, Kind::Storage)));
         let mut scene = Scene {
-            tables: TableBytes {
-                head: [&ranges.concat()[..], &[0; 42]].concat(),
-                elements: vec![0; 56],
-                tags: (0..108).collect(),
-                blank: vec![0x20; 36],
-            },
+            tables: TableBytes::labelled(
+                [&ranges.concat()[..], &[0; 42]].concat(),
+                vec![0; 56],
+                (0..108).collect(),
+                vec![0x20; 36],
+            ),
             places,
         };
         scene.set_volume(3, 1);

@@ -3,12 +3,14 @@
 use std::collections::BTreeMap;
 use std::fmt;
 
-use reference::{check, Clause, Entry};
+use reference::{check, Clause, Entry, TableBytes};
 
 use crate::call::Call;
 use crate::compare::Made;
 use crate::generate::calls::COMMANDS;
-use crate::scene::TableBytes;
+
+/// "512 elements in four pages, with tags"
+const LARGEST_LISTING: u32 = 26_664;
 
 #[derive(Clone, Copy, Debug, PartialEq, Eq, PartialOrd, Ord)]
 pub enum Event {
@@ -73,6 +75,25 @@ pub enum Buffer {
     Longer,
 }
 
+/// A lent slice.
+#[derive(Clone, Copy, Debug, PartialEq, Eq, PartialOrd, Ord)]
+pub enum Slice {
+    Head,
+    Elements,
+    Tags,
+    Blank,
+    Block,
+    Parameters,
+    Answer,
+}
+
+/// How many bytes a length needs.
+#[derive(Clone, Copy, Debug, PartialEq, Eq, PartialOrd, Ord)]
+pub enum Above {
+    OneByte,
+    TwoBytes,
+}
+
 #[derive(Clone, Copy, Debug, PartialEq, Eq, PartialOrd, Ord)]
 pub enum Outcome {
     Entered(Entry),
@@ -88,6 +109,12 @@ pub enum Outcome {
     Buffer(Buffer),
     Preventers(u8),
     Lowest(u8),
+    /// The slice's length, which is not the right one when cut to so many bytes, and the house number.
+    Long(Slice, Above, u8),
+    /// All 512 elements with tags: 26,664 bytes.
+    LargestListing,
+    /// GOOD, with the last of 127 transports named.
+    LastOfMostTransports(First),
 }
 
 impl fmt::Display for First {
@@ -117,6 +144,13 @@ impl fmt::Display for Outcome {
             Outcome::Buffer(buffer) => format!("buffer: {buffer:?}"),
             Outcome::Preventers(hosts) => format!("number 7, preventers {hosts}"),
             Outcome::Lowest(host) => format!("number 7, lowest {host}"),
+            Outcome::Long(slice, above, number) => {
+                format!("{slice:?} above {above:?}, house number {number}")
+            }
+            Outcome::LargestListing => "listing of 26,664 bytes".into(),
+            Outcome::LastOfMostTransports(first) => {
+                format!("{first}: GOOD by the last of 127 transports")
+            }
         };
         out.pad(&text)
     }
@@ -171,6 +205,7 @@ fn outcomes(before: &TableBytes, call: &Call, made: &Made) -> Vec<Outcome> {
         Call::Export { .. } => reached.push(Outcome::EventNumber(Event::Export, number)),
         Call::Reset => reached.push(Outcome::EventNumber(Event::Reset, number)),
     }
+    reached.extend(long_slices(before, call, made));
     if number == 1 {
         reached.extend(check(&before.clone().lend()).err().map(Outcome::Broken));
     }
@@ -206,10 +241,48 @@ fn command_outcomes(
         }
         (_, First::Known(0xB8)) => {
             let listing = Outcome::Listing(cut(block, made));
-            vec![Outcome::Good(first), listing, buffer(made)]
+            let mut reached = vec![Outcome::Good(first), listing, buffer(made)];
+            if reply.count == LARGEST_LISTING {
+                reached.push(Outcome::LargestListing);
+            }
+            reached
+        }
+        (_, First::Known(0xA5 | 0xA6)) if names_last_of_most_transports(before, block) => {
+            vec![Outcome::Good(first), Outcome::LastOfMostTransports(first)]
         }
         _ => vec![Outcome::Good(first)],
     }
+}
+
+fn names_last_of_most_transports(before: &TableBytes, block: &[u8]) -> bool {
+    let two = |bytes: &[u8]| u32::from(u16::from_be_bytes([bytes[0], bytes[1]]));
+    let (first, count) = (two(&before.head[..2]), two(&before.head[2..4]));
+    count == 127 && two(&block[2..4]) == first + 126
+}
+
+/// The answer buffer counts where bytes were returned that would have no room if its length were cut.
+fn long_slices(before: &TableBytes, call: &Call, made: &Made) -> Vec<Outcome> {
+    let (block, parameters) = call.lent();
+    let answer = call.answer().len();
+    let needed = made.reply.count as usize > answer % 65_536;
+    let lengths = [
+        (Slice::Head, before.head.len()),
+        (Slice::Elements, before.elements.len()),
+        (Slice::Tags, before.tags.len()),
+        (Slice::Blank, before.blank.len()),
+        (Slice::Block, block.len()),
+        (Slice::Parameters, parameters.len()),
+        (Slice::Answer, if needed { answer } else { 0 }),
+    ];
+    let long = |(slice, length): (Slice, usize)| {
+        let above = match (slice, length) {
+            (_, 65_536..) => Above::TwoBytes,
+            (Slice::Head | Slice::Blank | Slice::Block, 256..) => Above::OneByte,
+            _ => return None,
+        };
+        Some(Outcome::Long(slice, above, made.reply.number))
+    };
+    lengths.into_iter().filter_map(long).collect()
 }
 
 fn buffer(made: &Made) -> Outcome {
@@ -290,6 +363,26 @@ pub fn required() -> Vec<Outcome> {
     required.extend(required_listings());
     required.extend((1..=8).map(Outcome::Preventers));
     required.extend((1..=8).map(Outcome::Lowest));
+    required.extend(required_lengths());
+    required.push(Outcome::LargestListing);
+    required.extend([0xA5, 0xA6].map(|first| Outcome::LastOfMostTransports(First::Known(first))));
+    required
+}
+
+fn required_lengths() -> Vec<Outcome> {
+    let mut required = vec![
+        Outcome::Long(Slice::Elements, Above::TwoBytes, 1),
+        Outcome::Long(Slice::Tags, Above::TwoBytes, 1),
+        Outcome::Long(Slice::Parameters, Above::TwoBytes, 0),
+        Outcome::Long(Slice::Parameters, Above::TwoBytes, 4),
+        Outcome::Long(Slice::Answer, Above::TwoBytes, 0),
+    ];
+    for above in [Above::OneByte, Above::TwoBytes] {
+        required.push(Outcome::Long(Slice::Head, above, 1));
+        required.push(Outcome::Long(Slice::Blank, above, 1));
+        required.push(Outcome::Long(Slice::Block, above, 0));
+        required.push(Outcome::Long(Slice::Block, above, 3));
+    }
     required
 }
 

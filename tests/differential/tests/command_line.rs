@@ -2,8 +2,6 @@
 
 use std::process::{Command, Output};
 
-use core_ffi::EmptySlices;
-
 fn differential(arguments: &[&str]) -> Output {
     let mut program = Command::new(env!("CARGO_BIN_EXE_differential"));
     program.args(arguments).output().expect("the program runs")
@@ -15,19 +13,37 @@ fn last_line(output: &Output) -> String {
 }
 
 #[test]
-fn the_core_agrees_or_its_absence_is_said() {
+fn the_core_agrees() {
     let output = differential(&["--calls", "20000", "--seed", "7"]);
-    let (line, code) = match core_ffi::core(EmptySlices::Pointer) {
-        Some(_) => ("20000 passed, 0 failed", 0),
-        None => (
-            "core library not built: reference compared with itself is no test",
-            2,
-        ),
-    };
-    assert_eq!(
-        (last_line(&output).as_str(), output.status.code()),
-        (line, Some(code))
-    );
+    let ended = (last_line(&output), output.status.code());
+    assert_eq!(ended, ("20000 passed, 0 failed".into(), Some(0)));
+}
+
+#[test]
+fn too_few_calls_fail_for_what_they_did_not_reach() {
+    let output = differential(&["--calls", "1"]);
+    let text = String::from_utf8_lossy(&output.stdout);
+    assert_eq!(output.status.code(), Some(1));
+    assert!(text.contains("never reached: listing of 26,664 bytes"));
+    assert!(last_line(&output).starts_with("1 passed, "));
+}
+
+#[test]
+fn a_seed_may_be_hexadecimal() {
+    let run = |seed: &str| differential(&["--calls", "300", "--seed", seed]).stdout;
+    assert_eq!(run("0x1F"), run("31"));
+    assert_eq!(run("0X1f"), run("31"));
+    assert_ne!(run("0x1F"), run("32"));
+}
+
+#[test]
+fn help_is_no_failure() {
+    for arguments in [&["--help"][..], &["--calls", "5", "--help"]] {
+        let output = differential(arguments);
+        assert_eq!(output.status.code(), Some(0));
+        assert!(String::from_utf8_lossy(&output.stdout).starts_with("usage:"));
+        assert!(output.stderr.is_empty());
+    }
 }
 
 #[test]
@@ -37,6 +53,10 @@ fn wrong_arguments_are_refused() {
         &["--calls", "many"],
         &["--calls", "0"],
         &["--seed", "-1"],
+        &["--seed", "0x"],
+        &["--seed", "0x+1"],
+        &["--seed", "1F"],
+        &["--seed", "0x10000000000000000"],
         &["--speed", "9"],
     ] {
         let output = differential(arguments);

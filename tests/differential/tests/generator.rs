@@ -69,7 +69,7 @@ fn each_clause_is_broken_as_asked_and_none_before_it() {
 #[test]
 fn two_clauses_broken_are_not_sound() {
     let mut random = Random::new(3);
-    for _ in 0..2_000 {
+    for _ in 0..20_000 {
         let mut scene = faults::doubly_broken_scene(&mut random);
         assert!(check(&scene.tables.lend()).is_err(), "{scene:?}");
     }

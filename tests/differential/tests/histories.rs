@@ -6,8 +6,8 @@ use differential::call::Call;
 use differential::compare::make;
 use differential::generate::{calls, sound};
 use differential::random::Random;
-use differential::scene::{Scene, TableBytes};
-use reference::{check, Reference, Reply};
+use differential::scene::Scene;
+use reference::{check, Reference, Reply, TableBytes};
 
 fn volumes(tables: &TableBytes) -> BTreeSet<u32> {
     let volume = |element: &[u8]| u32::from(u16::from_be_bytes([element[0], element[1]]));

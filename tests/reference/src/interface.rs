@@ -1,5 +1,5 @@
 //! What a front end and any implementation of document 01 share: the lent slices, a command's arguments,
-//! the reply, and one method for each entry of the C interface.
+//! the reply, and the entries.
 
 /// How a call ended, field for field as the front end receives it.
 #[derive(Clone, Copy, Debug, Default, PartialEq, Eq)]
@@ -18,6 +18,62 @@ pub struct Tables<'a> {
     pub elements: &'a mut [u8],
     pub tags: &'a [u8],
     pub blank: &'a [u8],
+}
+
+/// The tables by name, in the order in which they are lent.
+pub const TABLES: [&str; 4] = ["head", "elements", "tags", "blank"];
+
+impl<'a> Tables<'a> {
+    /// A slice for each of [`TABLES`].
+    pub fn of(slices: [&'a mut [u8]; TABLES.len()]) -> Tables<'a> {
+        let [head, elements, tags, blank] = slices;
+        Tables {
+            head,
+            elements,
+            tags,
+            blank,
+        }
+    }
+}
+
+/// The tables as owned bytes.
+#[derive(Clone, Debug, Default, PartialEq, Eq)]
+pub struct TableBytes {
+    pub head: Vec<u8>,
+    pub elements: Vec<u8>,
+    pub tags: Vec<u8>,
+    pub blank: Vec<u8>,
+}
+
+impl TableBytes {
+    /// A library with labels, and every other table empty.
+    pub fn labelled(head: Vec<u8>, elements: Vec<u8>, tags: Vec<u8>, blank: Vec<u8>) -> TableBytes {
+        TableBytes {
+            head,
+            elements,
+            tags,
+            blank,
+        }
+    }
+
+    pub fn lend(&mut self) -> Tables<'_> {
+        Tables {
+            head: &mut self.head,
+            elements: &mut self.elements,
+            tags: &self.tags,
+            blank: &self.blank,
+        }
+    }
+
+    /// Each of [`TABLES`], to make it longer or shorter or to fill it with something else.
+    pub fn each(&mut self) -> [&mut Vec<u8>; TABLES.len()] {
+        [
+            &mut self.head,
+            &mut self.elements,
+            &mut self.tags,
+            &mut self.blank,
+        ]
+    }
 }
 
 /// What a command is given beside the tables.
@@ -57,33 +113,11 @@ impl Entry {
     ];
 }
 
-/// One method for each entry of the C interface.
+/// Anything that has the entries of the C interface.
 pub trait Implementation {
-    fn command(&self, tables: Tables, request: Request) -> Reply;
-    fn test_unit_ready(&self, tables: Tables, request: Request) -> Reply;
-    fn request_sense(&self, tables: Tables, request: Request) -> Reply;
-    fn reserve(&self, tables: Tables, request: Request) -> Reply;
-    fn release(&self, tables: Tables, request: Request) -> Reply;
-    fn prevent_allow(&self, tables: Tables, request: Request) -> Reply;
-    fn move_medium(&self, tables: Tables, request: Request) -> Reply;
-    fn exchange_medium(&self, tables: Tables, request: Request) -> Reply;
-    fn read_element_status(&self, tables: Tables, request: Request) -> Reply;
+    /// One of the entries that take a command block.
+    fn enter(&self, entry: Entry, tables: Tables, request: Request) -> Reply;
     fn import(&self, tables: Tables, address: u32, volume: u32) -> Reply;
     fn export(&self, tables: Tables, address: u32) -> Reply;
     fn reset(&self, tables: Tables) -> Reply;
-
-    /// The command entry chosen by its name.
-    fn enter(&self, entry: Entry, tables: Tables, request: Request) -> Reply {
-        match entry {
-            Entry::Command => self.command(tables, request),
-            Entry::TestUnitReady => self.test_unit_ready(tables, request),
-            Entry::RequestSense => self.request_sense(tables, request),
-            Entry::Reserve => self.reserve(tables, request),
-            Entry::Release => self.release(tables, request),
-            Entry::PreventAllow => self.prevent_allow(tables, request),
-            Entry::MoveMedium => self.move_medium(tables, request),
-            Entry::ExchangeMedium => self.exchange_medium(tables, request),
-            Entry::ReadElementStatus => self.read_element_status(tables, request),
-        }
-    }
 }

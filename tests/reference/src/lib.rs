@@ -18,10 +18,10 @@ mod rules;
 mod sense;
 mod soundness;
 
-pub use interface::{Entry, Implementation, Reply, Request, Tables};
+pub use interface::{Entry, Implementation, Reply, Request, TableBytes, Tables, TABLES};
 pub use refusal::Refusal;
 pub use rules::{Mutation, Rules};
-pub use soundness::{check, Clause};
+pub use soundness::{check, fails_alone, Clause};
 
 use command::{Outcome, Unsuccessful};
 use library::{Labels, Library};
@@ -30,22 +30,6 @@ use library::{Labels, Library};
 #[derive(Clone, Copy, Debug, Default)]
 pub struct Reference {
     pub rules: Rules,
-}
-
-pub fn command(tables: Tables, request: Request) -> Reply {
-    Reference::default().command(tables, request)
-}
-
-pub fn import(tables: Tables, address: u32, volume: u32) -> Reply {
-    Reference::default().import(tables, address, volume)
-}
-
-pub fn export(tables: Tables, address: u32) -> Reply {
-    Reference::default().export(tables, address)
-}
-
-pub fn reset(tables: Tables) -> Reply {
-    Reference::default().reset(tables)
 }
 
 impl Reference {
@@ -107,28 +91,12 @@ fn finish(outcome: Outcome, answer: &mut [u8]) -> Reply {
     }
 }
 
-/// A named entry handed any block answers what the entry for any block answers.
-macro_rules! same_as_command {
-    ($($entry:ident),*) => {
-        $(fn $entry(&self, tables: Tables, request: Request) -> Reply {
-            self.command(tables, request)
-        })*
-    };
-}
-
 impl Implementation for Reference {
-    fn command(&self, mut tables: Tables, request: Request) -> Reply {
+    /// A named entry handed any block answers what the entry for any block answers.
+    fn enter(&self, _: Entry, mut tables: Tables, request: Request) -> Reply {
         self.try_command(&mut tables, request)
             .unwrap_or_else(Refusal::reply)
     }
-
-    same_as_command!(test_unit_ready, request_sense, reserve, release);
-    same_as_command!(
-        prevent_allow,
-        move_medium,
-        exchange_medium,
-        read_element_status
-    );
 
     fn import(&self, tables: Tables, address: u32, volume: u32) -> Reply {
         self.event(tables, |library, labels| {

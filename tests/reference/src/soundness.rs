@@ -116,6 +116,13 @@ pub fn check(tables: &Tables) -> Result<(), Clause> {
     judge(tables, Rules::default()).map(|_| ())
 }
 
+/// Whether the tables would be sound but for this clause, which is known to be broken. Without the head's length
+/// nothing else of the head can be judged.
+pub fn fails_alone(tables: &Tables, clause: Clause) -> bool {
+    let left_out = Rules::with(Mutation::NotJudged(clause));
+    clause == Clause::HeadLength || judge(tables, left_out).is_ok()
+}
+
 pub(crate) fn judge(tables: &Tables, rules: Rules) -> Result<Records, Clause> {
     let judge = Judge { rules };
     judge.lengths(tables)?;

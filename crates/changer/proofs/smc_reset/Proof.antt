@@ -10,8 +10,8 @@ use borrow.Author.Needs.{needs}
 use Rattle.changer.proofs.smc_reset.Statement.{statement}
 use Rattle.changer.proofs.smc_reset.Tie as tie
 
-sound-requires : tie.Need-sound-requires
-sound-requires c κs = search needs
+check-requires : tie.Need-check-requires
+check-requires c κs = search needs
 
 numbered-requires : tie.Need-numbered-requires
 numbered-requires c κs = search needs
@@ -24,10 +24,18 @@ same-length-2 c = search needs
 
 returns : tie.Need-returns
 unfolding resetting
-returns c = number-ends (lent _ _ _) _ 1 _ _ (c .numbered .ensures) (no _ _ _ _ _ (c .before .before .sound .ensures) (not-true _ (c .before .if1 .taken)) refl) ∙ reset-is _
+returns c =
+    let broken = c .before in
+    let checked = broken .before .before in
+    number-ends (lent _ _ _) _ 1 _ _ (c .numbered .ensures)
+    (no _ _ _ _ _ (checked .check .ensures .0) (not-true _ (broken .if1 .taken)) refl)
+    ∙ reset-is _
 
 reset-requires : tie.Need-reset-requires
-reset-requires c κs = let s = sym (c .before .before .before .sound .ensures) ∙ not-false _ (c .before .before .if1 .left) in head-room _ _ _ s
+reset-requires c κs =
+    let whole = c .before .before in
+    let checked = whole .before .before in
+    head-room _ _ _ (sym (checked .check .ensures .0) ∙ not-false _ (whole .if1 .left))
 
 same-length-3 : tie.Need-same-length-3
 same-length-3 c = search needs
@@ -36,13 +44,18 @@ same-length-4 : tie.Need-same-length-4
 same-length-4 c = search needs
 
 returns-2 : tie.Need-returns-2
-returns-2 c = c .before .before .before .before .reset .ensures _ (sym (c .before .before .before .before .before .before .before .before .sound .ensures) ∙ not-false _ (c .before .before .before .before .before .before .before .if1 .left)) ∙ reset-is _
+returns-2 c =
+    let called = c .before .before .before .before in
+    let whole = called .before .before .before in
+    let checked = whole .before .before in
+    called .reset .ensures _ (sym (checked .check .ensures .0) ∙ not-false _ (whole .if1 .left))
+    ∙ reset-is _
 
 pub smc-reset-spec : {M : Type 1} → statement M
 smc-reset-spec =
     tie.close
     (tie.spec
-    sound-requires
+    check-requires
     numbered-requires
     same-length
     same-length-2

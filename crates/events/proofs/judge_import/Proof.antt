@@ -5,24 +5,26 @@ use mathlib.Core.List.{[]}
 use Rattle.rules.specs.Tables.{labels}
 use Rattle.rules.specs.Events.{importing}
 use Rattle.events.specs.Judged.{meaning}
-use Rattle.events.proofs.Ports.{port-within, port-room}
-use Rattle.events.proofs.Judging.{elsewhere, locked, right-small, import-full, import-wrong, import-right}
+use Rattle.events.proofs.Judging.{port-within, port-room, elsewhere, locked, right-small, import-full, import-wrong, import-right}
 use borrow.Author.Needs.{needs}
 use Rattle.events.proofs.judge_import.Statement.{statement}
 use Rattle.events.proofs.judge_import.Tie as tie
 
-port-at-requires : tie.Need-port-at-requires
-port-at-requires c κs = search needs
+find-requires : tie.Need-find-requires
+find-requires c κs = search needs
 
-enum-known-place : tie.Need-enum-known-place
-enum-known-place c = search needs
+enum-known-to : tie.Need-enum-known-to
+enum-known-to c = search needs
 
 enum-told : tie.Need-enum-told
 enum-told c = search needs
 
 returns : tie.Need-returns
 unfolding meaning importing
-returns c = ((λ rest e s. elsewhere _ _ s _ (c .before .before .port-at .ensures) (c .enum-told .given .1) _), tt)
+returns c =
+    let looked = c .before .before in
+    let start = looked .before .before .before .before in
+    ((λ rest e s. elsewhere _ _ _ (looked .find .ensures) _ (start .pre .ported .runs-are) s (c .enum-told .given .1) _), tt)
 
 mask-requires : tie.Need-mask-requires
 mask-requires c κs = search needs
@@ -33,23 +35,29 @@ prevented-requires c κs = search needs
 returns-2 : tie.Need-returns-2
 unfolding meaning importing
 returns-2 c =
-    let looked = c .before .before in
-    let found = looked .before .before in
+    let masked = c .before .before in
+    let placed = masked .before .before in
+    let looked = placed .before .before in
+    let start = looked .before .before .before .before in
     rw (c .prevented .ensures)
-    ((λ rest e s. locked _ _ s _ (found .before .before .port-at .ensures) _ (found .place .given .1) _ (looked .mask .ensures) (c .before .if1 .taken) _), tt)
+    ((λ rest e s. locked _ _ _ (looked .find .ensures) _ (start .pre .ported .runs-are) s _ (placed .to .given .1) _ (masked .mask .ensures) (c .before .if1 .taken) _), tt)
 
 volume-requires : tie.Need-volume-requires
 volume-requires c κs =
-    let found = c .before .before .before in
-    port-room _ _ _ (found .before .before .port-at .ensures) _ (found .place .given .1) _ (found .before .before .before .before .before .before .pre .1 .0)
+    let placed = c .before .before .before in
+    let looked = placed .before .before in
+    let start = looked .before .before .before .before in
+    port-room _ _ _ (looked .find .ensures) _ _ (start .pre .ported) _ (placed .to .given .1)
 
 returns-3 : tie.Need-returns-3
 unfolding meaning
 returns-3 c =
     let read = c .before in
-    let looked = read .before .before in
-    let found = looked .before .before in
-    ((λ rest e s. import-full _ _ s _ (found .before .before .port-at .ensures) _ (found .place .given .1) _ (looked .mask .ensures) (read .before .if1 .left) _ (read .volume .ensures) _ (c .if2 .taken)), tt)
+    let masked = read .before .before in
+    let placed = masked .before .before in
+    let looked = placed .before .before in
+    let start = looked .before .before .before .before in
+    ((λ rest e s. import-full _ _ _ (looked .find .ensures) _ (start .pre .ported .runs-are) s _ (placed .to .given .1) _ (masked .mask .ensures) (read .before .if1 .left) _ (read .volume .ensures) _ (c .if2 .taken)), tt)
 
 wrong-volume-requires : tie.Need-wrong-volume-requires
 wrong-volume-requires c κs = search needs
@@ -59,28 +67,38 @@ unfolding meaning
 returns-4 c =
     let asked = c .before in
     let read = asked .before .before in
-    let looked = read .before .before in
-    let found = looked .before .before in
-    ((λ rest e s. import-wrong _ _ s _ (found .before .before .port-at .ensures) _ (found .place .given .1) _ (looked .mask .ensures) (read .before .if1 .left) _ (read .volume .ensures) _ (asked .before .if2 .left) _ (asked .wrong-volume .ensures _ rest e) (c .if3 .taken)), tt)
+    let masked = read .before .before in
+    let placed = masked .before .before in
+    let looked = placed .before .before in
+    let start = looked .before .before .before .before in
+    ((λ rest e s. import-wrong _ _ _ (looked .find .ensures) _ (start .pre .ported .runs-are) s _ (placed .to .given .1) _ (masked .mask .ensures) (read .before .if1 .left) _ (read .volume .ensures) _ (asked .before .if2 .left) _ (asked .wrong-volume .ensures _ rest e) (c .if3 .taken)), tt)
 
-cast-t10 : tie.Need-cast-t10
-cast-t10 c = omega (arith, right-small _ _ _ (c .before .wrong-volume .ensures [] (labels _ []) refl) (c .if3 .left))
+cast-number : tie.Need-cast-number
+cast-number c =
+    let asked = c .before in
+    let looked = asked .before .before .before .before .before .before .before .before in
+    let start = looked .before .before .before .before in
+    omega (arith, start .pre .volumes-few, right-small _ _ _ (asked .wrong-volume .ensures [] (labels _ []) refl) (c .if3 .left))
 
 returns-5 : tie.Need-returns-5
 unfolding meaning
 returns-5 c =
     let asked = c .before in
     let read = asked .before .before in
-    let looked = read .before .before in
-    let found = looked .before .before in
-    ((λ rest e s. import-right _ _ s _ (found .before .before .port-at .ensures) _ (found .place .given .1) _ (looked .mask .ensures) (read .before .if1 .left) _ (read .volume .ensures) _ (asked .before .if2 .left) _ (asked .wrong-volume .ensures _ rest e) (c .if3 .left)), port-within _ _ _ (found .before .before .port-at .ensures) _ (found .place .given .1) _ (found .before .before .before .before .before .before .pre .1 .0))
+    let masked = read .before .before in
+    let placed = masked .before .before in
+    let looked = placed .before .before in
+    let start = looked .before .before .before .before in (
+      (λ rest e s. import-right _ _ _ (looked .find .ensures) _ (start .pre .ported .runs-are) s _ (placed .to .given .1) _ (masked .mask .ensures) (read .before .if1 .left) _ (read .volume .ensures) _ (asked .before .if2 .left) _ (asked .wrong-volume .ensures _ rest e) (c .if3 .left)),
+      port-within _ _ _ (looked .find .ensures) _ _ (start .pre .ported) _ (placed .to .given .1),
+    )
 
 pub judge-import-spec : {M : Type 1} → statement M
 judge-import-spec =
     tie.close
     (tie.spec
-    port-at-requires
-    enum-known-place
+    find-requires
+    enum-known-to
     enum-told
     returns
     mask-requires
@@ -90,5 +108,5 @@ judge-import-spec =
     returns-3
     wrong-volume-requires
     returns-4
-    cast-t10
+    cast-number
     returns-5)

@@ -3,15 +3,15 @@ use Prim.Native.Nat.{_≤_, _-_}
 use native.Mathlib.Omega.{arith}
 use mathlib.Core.Path.{sym, ap, _∙_}
 use borrow.Author.Needs.{needs}
+use Rattle.rules.proofs.Loops.{Failed, failed-none, failed-more, found-there, found-nowhere}
 use Rattle.rules.specs.Tables.{places, holder}
 use Rattle.rules.specs.Order.{other}
-use Rattle.lists.proofs.Searches.{Passed, passed-none, passed-more, found-there, found-nowhere}
 use Rattle.holds.specs.Judged.{anyOther}
 use Rattle.holds.proofs.any_other.Statement.{statement}
 use Rattle.holds.proofs.any_other.Tie as tie
 
 abbrev Inv-loop : tie.InvT-loop
-Inv-loop elements host n p₀ p = (p ≤ n) × Passed (λ q. other host (holder elements q)) 0 p
+Inv-loop elements host n p₀ p = (p ≤ n) × Failed (λ q. other host (holder elements q)) 0 p
 
 abbrev μ-loop : tie.MeasureT-loop
 μ-loop elements host n p₀ p = n - p
@@ -20,7 +20,7 @@ places-requires : tie.Need-places-requires Inv-loop μ-loop
 places-requires c κs = search needs
 
 loop-holds : tie.Need-loop-holds Inv-loop μ-loop
-loop-holds c = (search needs, passed-none _ 0)
+loop-holds c = (search needs, failed-none _ 0)
 
 holder-requires : tie.Need-holder-requires Inv-loop μ-loop
 unfolding places
@@ -44,7 +44,7 @@ loop-less c = search needs
 loop-again : tie.Need-loop-again Inv-loop μ-loop
 loop-again c =
     let b = c .before .before in
-    (search needs, passed-more _ 0 _ (b .before .before .loop .inv .1) (ap (other _) (sym (b .holder .ensures)) ∙ sym (c .before .other .ensures) ∙ c .if1 .left))
+    (search needs, failed-more _ 0 _ (b .before .before .loop .inv .1) (ap (other _) (sym (b .holder .ensures)) ∙ sym (c .before .other .ensures) ∙ c .if1 .left))
 
 returns-2 : tie.Need-returns-2 Inv-loop μ-loop
 unfolding anyOther

@@ -2,24 +2,25 @@
 use Prim.Native.Nat.{_≤_, _-_, _/_, _%_}
 use native.Mathlib.Omega.{arith}
 use mathlib.Core.Path.{_≡_, refl, ap, _∙_}
-use lib.ListN.{length}
 use borrow.Author.Needs.{needs}
+use Rattle.rules.proofs.Loops.{Turned, turned-none, turned-all}
 use Rattle.rules.specs.Choice.{each}
-use Rattle.rules.specs.Holds.{descriptorSize, descriptors}
-use Rattle.tables.specs.Ranges.{rosterOf}
+use Rattle.rules.specs.Tables.{descriptorSize}
+use Rattle.rules.specs.Holds.{descriptors}
+use Rattle.tables.specs.Ranges.{laid}
 use Rattle.reader.proofs.Places.{next-place}
 use Rattle.lists.proofs.Faults.{span-at}
 use Rattle.holds.specs.Judged.{heldBy, granting}
-use Rattle.holds.proofs.Loops.{Stepped, stepped-none, stepped-next, stepped-all, span-end, span-inside, held-span}
+use Rattle.holds.proofs.Loops.{turned-next, span-end, span-inside, held-span}
 use Rattle.holds.proofs.grant.Statement.{statement}
 use Rattle.holds.proofs.grant.Tie as tie
 
 abbrev Inv-loop : tie.InvT-loop
-Inv-loop rs elements₀ host id list stop at₀ elements at =
-    (at % descriptorSize ≡ 0) × (at ≤ stop) × (length elements ≡ length elements₀) × Stepped (heldBy (rosterOf rs) host id list) 0 elements₀ (at / descriptorSize) elements
+Inv-loop runs elements₀ host id list stop at₀ elements at =
+    (at % descriptorSize ≡ 0) × (at ≤ stop) × Turned (heldBy (laid runs) host id list) 0 elements₀ elements (at / descriptorSize)
 
 abbrev μ-loop : tie.MeasureT-loop
-μ-loop rs elements₀ host id list stop at₀ elements at = stop - at
+μ-loop runs elements₀ host id list stop at₀ elements at = stop - at
 
 free-requires : tie.Need-free-requires Inv-loop μ-loop
 free-requires c κs = search needs
@@ -28,7 +29,7 @@ stop-requires : tie.Need-stop-requires Inv-loop μ-loop
 stop-requires c κs = search needs
 
 loop-holds : tie.Need-loop-holds Inv-loop μ-loop
-loop-holds c = (refl, search needs, refl, stepped-none _ 0 _)
+loop-holds c = (refl, search needs, turned-none _ 0 _)
 
 read-at-requires : tie.Need-read-at-requires Inv-loop μ-loop
 unfolding descriptors
@@ -44,7 +45,7 @@ hold-span-requires c κs =
     let n = j .before in
     let start = n .before .before .before .before .before .before .before in
     let e = span-at _ _ _ _ _ (j .loop .inv .0) (d .read-at .ensures) (c .span-of .ensures) in
-    (omega (arith, span-end _ _ _ _ e), omega (arith, start .pre .0, span-inside _ _ _ _ e (start .pre .1) (omega (arith, n .stop .ensures))))
+    (omega (arith, span-end _ _ _ _ e), omega (arith, start .pre .0 .elements-long, j .loop .inv .2 .kept, span-inside _ _ _ _ e (start .pre .1) (omega (arith, n .stop .ensures))))
 
 loop-less : tie.Need-loop-less Inv-loop μ-loop
 loop-less c = omega (arith, next-place _ _ _ (c .before .before .before .before .before .read-at .ensures))
@@ -60,8 +61,7 @@ loop-again c =
     let e = span-at _ _ _ _ _ (l .0) (d .read-at .ensures) (s .span-of .ensures) in (
       omega (arith, l .0),
       omega (arith, l .0, j .before .stop .ensures),
-      search needs,
-      stepped-next _ _ _ _ _ _ (l .3) (held-span _ _ _ _ e _ _ _ _ (h .hold-span .ensures)) a,
+      turned-next _ _ _ _ _ _ (l .2) (held-span _ _ _ _ e _ _ _ _ (h .hold-span .ensures)) (h .hold-span .kept .0) a,
     )
 
 same-length : tie.Need-same-length Inv-loop μ-loop
@@ -71,7 +71,7 @@ returns : tie.Need-returns Inv-loop μ-loop
 unfolding granting
 returns c =
     let n = c .before .before in
-    stepped-all _ 0 _ _ _ _ (c .before .loop .inv .3) (omega (arith, n .stop .ensures)) ∙ ap (each _ _ 0) (n .before .before .before .free .ensures)
+    turned-all _ 0 _ _ _ (c .before .loop .inv .2) _ (omega (arith, n .stop .ensures)) ∙ ap (each _ _ 0) (n .before .before .before .free .ensures)
 
 pub grant-spec : {M : Type 1} → statement M
 grant-spec =

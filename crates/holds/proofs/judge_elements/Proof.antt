@@ -2,9 +2,9 @@
 use mathlib.Core.Path.{sym, _∙_}
 use borrow.Author.Needs.{needs}
 use Rattle.rules.proofs.Ladder.{ladder}
-use Rattle.lists.proofs.Faults.{inside}
+use Rattle.lists.proofs.Faults.{nameable}
 use Rattle.holds.specs.Judged.{elementsBy}
-use Rattle.holds.proofs.Meaning.{fault-code, fault-none}
+use Rattle.holds.proofs.Meaning.{fault-cause, fault-none}
 use Rattle.holds.proofs.judge_elements.Statement.{statement}
 use Rattle.holds.proofs.judge_elements.Tie as tie
 
@@ -18,12 +18,12 @@ returns c = (search ladder depth 10, tt)
 first-fault-requires : tie.Need-first-fault-requires
 first-fault-requires c κs = search needs
 
-enum-known-asc : tie.Need-enum-known-asc
-enum-known-asc c = search needs
+enum-known-cause : tie.Need-enum-known-cause
+enum-known-cause c = search needs
 
 returns-2 : tie.Need-returns-2
 unfolding elementsBy
-returns-2 c = (search (ladder, fault-code) depth 10, tt)
+returns-2 c = (search (ladder, fault-cause) depth 10, tt)
 
 enum-told : tie.Need-enum-told
 enum-told c = search needs
@@ -31,7 +31,7 @@ enum-told c = search needs
 conflicts-requires : tie.Need-conflicts-requires
 conflicts-requires c κs =
     let f = c .before .before in
-    (search needs, inside _ _ (sym (c .enum-told .given .1) ∙ f .first-fault .ensures))
+    (search needs, nameable _ _ (sym (c .enum-told .given .1) ∙ f .first-fault .ensures))
 
 returns-3 : tie.Need-returns-3
 unfolding elementsBy
@@ -41,7 +41,7 @@ returns-4 : tie.Need-returns-4
 unfolding elementsBy
 returns-4 c =
     let t = c .before .before in
-    (search (ladder, fault-none) depth 10, inside _ _ (sym (t .enum-told .given .1) ∙ t .before .before .first-fault .ensures))
+    (search (ladder, fault-none) depth 10, nameable _ _ (sym (t .enum-told .given .1) ∙ t .before .before .first-fault .ensures))
 
 pub judge-elements-spec : {M : Type 1} → statement M
 judge-elements-spec =
@@ -50,7 +50,7 @@ judge-elements-spec =
     wrong-length-requires
     returns
     first-fault-requires
-    enum-known-asc
+    enum-known-cause
     returns-2
     enum-told
     conflicts-requires

@@ -5,20 +5,16 @@ use Rattle.holds.specs.Judged.{unitBy}
 use Rattle.holds.proofs.judge_unit.Statement.{statement}
 use Rattle.holds.proofs.judge_unit.Tie as tie
 
+any-other-requires : tie.Need-any-other-requires
+any-other-requires c κs = search needs
+
 returns : tie.Need-returns
 unfolding unitBy
 returns c = search ladder depth 10
-
-any-other-requires : tie.Need-any-other-requires
-any-other-requires c κs = search needs
 
 returns-2 : tie.Need-returns-2
 unfolding unitBy
 returns-2 c = search ladder depth 10
 
-returns-3 : tie.Need-returns-3
-unfolding unitBy
-returns-3 c = search ladder depth 10
-
 pub judge-unit-spec : {M : Type 1} → statement M
-judge-unit-spec = tie.close (tie.spec returns any-other-requires returns-2 returns-3)
+judge-unit-spec = tie.close (tie.spec any-other-requires returns returns-2)

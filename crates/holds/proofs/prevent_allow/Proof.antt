@@ -3,30 +3,9 @@ use mathlib.Core.Path.{refl}
 use mathlib.Core.List.{[], _∷_}
 use borrow.Author.Needs.{needs}
 use Rattle.rules.specs.Tables.{Prevent, inHead, inElements, change, changes}
-use Rattle.rules.specs.Holds.{preventMasks, prevent}
-use Rattle.rules.proofs.Ladder.{yes}
-use Rattle.holds.proofs.Ends.{ends-as, both, good-with, prevents}
+use Rattle.holds.proofs.Ends.{both, good-with, prevents}
 use Rattle.holds.proofs.prevent_allow.Statement.{statement}
 use Rattle.holds.proofs.prevent_allow.Tie as tie
-
-slice-aggregate-stray : tie.Need-slice-aggregate-stray
-slice-aggregate-stray c = search needs
-
-stray-requires : tie.Need-stray-requires
-stray-requires c κs = search needs
-
-check-requires : tie.Need-check-requires
-check-requires c κs = search needs
-
-same-length : tie.Need-same-length
-same-length c = search needs
-
-returns : tie.Need-returns
-unfolding prevent preventMasks
-returns c elements rest buffer =
-    let k = c .before .before in
-    let t = k .before .before in
-    ends-as _ buffer (k .check .ensures elements rest buffer) (yes _ _ _ _ _ (t .before .stray .ensures) (t .if1 .taken) refl)
 
 mask-requires : tie.Need-mask-requires
 mask-requires c κs = search needs
@@ -40,32 +19,26 @@ good-requires c κs = search needs
 set-mask-requires : tie.Need-set-mask-requires
 set-mask-requires c κs = search needs
 
-same-length-2 : tie.Need-same-length-2
-same-length-2 c = search needs
+same-length : tie.Need-same-length
+same-length c = search needs
 
-returns-2 : tie.Need-returns-2
-unfolding preventMasks changes change inHead inElements
-returns-2 c elements rest buffer =
+returns : tie.Need-returns
+unfolding changes change inHead inElements
+returns c elements rest buffer =
     let s = c .before .before in
     let g = s .before .before .before .before in
     let m = g .before .before in
-    let t = m .before .before .before in
     good-with _ _ _ _ rest buffer _ (g .good2 .ensures elements rest buffer) (Prevent _ ∷ []) _ _ _
-    (prevents _ _ _ _ _ _ (t .before .stray .ensures) (t .if1 .left) (m .before .mask .ensures) (m .new-mask .ensures))
+    (prevents _ _ _ _ _ (m .before .mask .ensures) (m .new-mask .ensures))
     (both _ _ _ _ rest (s .set-mask .ensures) refl)
 
 pub prevent-allow-spec : {M : Type 1} → statement M
 prevent-allow-spec =
     tie.close
     (tie.spec
-    slice-aggregate-stray
-    stray-requires
-    check-requires
-    same-length
-    returns
     mask-requires
     new-mask-requires
     good-requires
     set-mask-requires
-    same-length-2
-    returns-2)
+    same-length
+    returns)

@@ -27,35 +27,54 @@ begin-requires : tie.Need-begin-requires
 begin-requires c κs = search needs
 
 count-requires : tie.Need-count-requires
-count-requires c κs = ((c .before .before .before .before .before .pre .0 .0, c .before .before .before .before .before .pre .1 .inside), rw (c .begin .ensures) (begins-within _ _ (c .before .before .before .before .before .pre .0 .1)))
+count-requires c κs =
+    let s = c .before .before .before .before .before in
+    ((s .pre .0 .0, s .pre .1 .inside), rw (c .begin .ensures) (begins-within _ _ (s .pre .0 .1)))
 
 shortened-requires : tie.Need-shortened-requires
-shortened-requires c κs = (c .before .if1 .taken, within (c .before .before))
+shortened-requires c κs = within (c .before .before)
 
 same-length : tie.Need-same-length
 same-length c = search needs
 
 returns : tie.Need-returns
-returns c = short-answers _ _ _ _ _ (c .before .before .before .before .before .before .before .before .before .before .before .pre .1) _ (last (c .before .before .before .before .before)) _ _ _ (c .before .before .before .before .if1 .taken) (c .before .before .shortened .ensures)
+returns c =
+    let tested = c .before .before .before .before in
+    let s = tested .before .before .before .before .before .before .before in
+    short-answers _ _ _ _ _ (s .pre .1) _ (last (tested .before)) _ _ _ (tested .if1 .taken) (c .before .before .shortened .ensures)
 
 numbered-requires : tie.Need-numbered-requires
 numbered-requires c κs = search needs
 
 returns-2 : tie.Need-returns-2
-returns-2 c = rw (c .numbered .ensures) (long-refused _ _ _ _ _ (c .before .before .before .before .before .before .before .before .before .pre .1) _ (last (c .before .before .before)) _ (c .before .before .if1 .left) (c .before .if2 .taken))
+returns-2 c =
+    let tested = c .before .before in
+    let s = tested .before .before .before .before .before .before .before in
+    rw (c .numbered .ensures) (long-refused _ _ _ _ _ (s .pre .1) _ (last (tested .before)) _ (tested .if1 .left) (c .before .if2 .taken))
 
 header-requires : tie.Need-header-requires
 header-requires c κs =
-    let w = within (c .before .before .before) in
-    let e = added-length _ _ _ _ _ (c .before .before .before .before .before .before .before .before .before .pre .1) _ (last (c .before .before .before)) in
+    let all = c .before .before .before in
+    let s = all .before .before .before .before .before .before in
+    let w = within all in
+    let e = added-length _ _ _ _ _ (s .pre .1) _ (last all) in
     (omega (arith, e, c .before .if2 .left), (w .first, (omega (arith, w .sum), omega (arith, w .total))))
 
 put-ranges-requires : tie.Need-put-ranges-requires
 put-ranges-requires c κs =
-    let s = (c .before .before .before .before .before .before .before .before .before .before .before .before .before) in
-    let k = c .before .before .before .header .kept .0 in
-    let l = rw (c .before .before .before .before .before .before .before .count .ensures) at (c .before .before .before .before .before .if2 .left) in
-    (rw k l, ((s .pre .0 .0, (s .pre .1 .inside, rw (c .before .before .before .before .before .before .before .before .begin .ensures) (begins-within (s .args .most) (s .args .room) (s .pre .0 .1)))), (rw (c .before .before .before .before .before .before .before .before .begin .ensures) (omega (arith, s .pre .1 .stands)), s .pre .1 .labels)))
+    let headed = c .before .before .before in
+    let tested = headed .before .before in
+    let all = tested .before .before in
+    let s = all .before .before .before .before .before .before in
+    let b = all .before .begin .ensures in
+    let k = headed .header .kept .0 in
+    let l = rw (all .count .ensures) at (tested .if2 .left) in (
+      rw k l,
+      (
+        (s .pre .0 .0, (s .pre .1 .inside, rw b (begins-within (s .args .most) (s .args .room) (s .pre .0 .1)))),
+        (rw b (omega (arith, s .pre .1 .stands)), s .pre .1 .labels),
+      ),
+    )
 
 cast-told : tie.Need-cast-told
 cast-told c = omega (arith, within (c .before .before .before .before .before .before .before .before .before .before) .at)
@@ -68,9 +87,14 @@ same-length-2 c = search needs
 
 returns-3 : tie.Need-returns-3
 returns-3 c =
-    let x = last (c .before .before .before .before .before .before .before .before .before .before .before) in
+    let written = c .before .before .before in
+    let headed = written .before .before .before .before in
+    let tested = headed .before .before in
+    let all = tested .before .before in
+    let s = all .before .before .before .before .before .before in
     rw (c .told .ensures)
-    (long-answers _ _ _ _ _ (c .before .before .before .before .before .before .before .before .before .before .before .before .before .before .before .before .before .pre .1) _ x _ _ (c .before .before .before .before .before .before .before .before .before .before .if1 .left) (c .before .before .before .before .before .before .before .before .before .if2 .left) (c .before .before .before .put-ranges .ensures ∙ rw (c .before .before .before .before .before .before .before .before .before .before .before .before .begin .ensures, c .before .before .before .before .before .before .before .header .ensures)))
+    (long-answers _ _ _ _ _ (s .pre .1) _ (last all) _ _ (tested .before .if1 .left) (tested .if2 .left)
+    (written .put-ranges .ensures ∙ rw (all .before .begin .ensures, headed .header .ensures)))
 
 pub list-spec : {M : Type 1} → statement M
 list-spec =

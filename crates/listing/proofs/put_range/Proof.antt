@@ -13,11 +13,11 @@ use borrow.Author.Needs.{needs}
 use Rattle.listing.proofs.put_range.Statement.{statement}
 use Rattle.listing.proofs.put_range.Tie as tie
 
-wide-requires : tie.Need-wide-requires
-wide-requires c κs = search needs
+cast-first : tie.Need-cast-first
+cast-first c = search needs
 
-wide-requires-2 : tie.Need-wide-requires-2
-wide-requires-2 c κs = search needs
+cast-count : tie.Need-cast-count
+cast-count c = search needs
 
 pick-requires : tie.Need-pick-requires
 pick-requires c κs = search needs
@@ -29,7 +29,7 @@ returns : tie.Need-returns
 unfolding stepBytes shown when
 returns c =
     let a = c .before .before .before .before .before .before .before .before .before .args in
-    let e : fittingAt (a .q) (a .s) (meaning (a .r)) ≡ 0 = rw (← c .before .before .before .before .wide .ensures, ← c .before .before .before .wide2 .ensures, ← c .before .before .pick .ensures) (sym (c .before .fit .ensures) ∙ c .if1 .taken) in
+    let e : fittingAt (a .q) (a .s) (meaning (a .r)) ≡ 0 = rw (← c .before .before .pick .ensures) (sym (c .before .fit .ensures) ∙ c .if1 .taken) in
     simp (eq-eqb _ _ e) (sym (put-nothing _ _))
 
 less-requires : tie.Need-less-requires
@@ -44,15 +44,17 @@ add-put-page-2 c = search needs
 put-page-requires : tie.Need-put-page-requires
 unfolding stepOf
 put-page-requires c κs =
-    let s = (c .before .before .before .before .before .before .before .before .before .before .before .before) in
+    let tested = c .before .before .before in
+    let picked = tested .before .before in
+    let s = picked .before .before .before .before .before .before .before in
     let a = s .args in
     let r = meaning (a .r) in
     let p = picks-few (a .q .code) (a .q .start) (a .s .left) r in
     let f = fit-is (a .q .tagged) (a .s .room) (chosenAt (a .q) (a .s) r) .few in
     let k = counts-few (a .q) (a .s) r (s .pre .1 .0 .1 .1 .sum) in
     let i = s .pre .1 .0 .1 .0 in
-    let z : fittingAt (a .q) (a .s) r ≡ 0 → ⊥ = rw (c .before .before .before .before .fit .ensures, c .before .before .before .before .before .pick .ensures, c .before .before .before .before .before .before .wide2 .ensures, c .before .before .before .before .before .before .before .wide .ensures) at (c .before .before .before .if1 .left) in
-    rw (c .before .before .less .ensures, c .before .before .before .before .fit .ensures, c .before .before .before .before .before .pick .ensures, c .before .before .before .before .before .before .wide2 .ensures, c .before .before .before .before .before .before .before .wide .ensures)
+    let z : fittingAt (a .q) (a .s) r ≡ 0 → ⊥ = rw (tested .before .fit .ensures, picked .pick .ensures) at (tested .if1 .left) in
+    rw (c .before .before .less .ensures, tested .before .fit .ensures, picked .pick .ensures)
     (s .pre .0, ((omega (arith, p, f, z, i .ends), (k .1, k .0)), (omega (arith, p, f, z, s .pre .1 .1 .0), s .pre .1 .1 .1)))
 
 same-length : tie.Need-same-length
@@ -60,14 +62,18 @@ same-length c = search needs
 
 returns-2 : tie.Need-returns-2
 unfolding stepBytes
-returns-2 c = rw (c .before .before .put-page .ensures, c .before .before .before .before .before .less .ensures, c .before .before .before .before .before .before .before .fit .ensures, c .before .before .before .before .before .before .before .before .pick .ensures, c .before .before .before .before .before .before .before .before .before .wide2 .ensures, c .before .before .before .before .before .before .before .before .before .before .wide .ensures)
+returns-2 c =
+    let put = c .before .before in
+    let skipped = put .before .before .before in
+    let fitted = skipped .before .before in
+    rw (put .put-page .ensures, skipped .less .ensures, fitted .fit .ensures, fitted .before .pick .ensures)
 
 pub put-range-spec : {M : Type 1} → statement M
 put-range-spec =
     tie.close
     (tie.spec
-    wide-requires
-    wide-requires-2
+    cast-first
+    cast-count
     pick-requires
     fit-requires
     returns

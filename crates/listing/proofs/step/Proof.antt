@@ -3,7 +3,7 @@ use native.Mathlib.Omega.{arith}
 use Prim.Native.Nat.{_<_}
 use Rattle.tables.specs.Ranges.{meaning}
 use Rattle.listing.specs.Counting.{stepOf}
-use Rattle.pages.proofs.Descriptor.{used-few}
+use Rattle.pages.proofs.Descriptor.{page-bytes-few}
 use Rattle.listing.proofs.Counted.{counts-few}
 use borrow.Author.Needs.{needs}
 use Rattle.listing.proofs.step.Statement.{statement}
@@ -13,14 +13,13 @@ use Rattle.listing.proofs.step.Tie as tie
 few : (c : tie.After-fit) → (c .fit .result < 65536) × (c .before .pick .result < 65536)
 few c =
     let s = c .before .before .before .before in
-    rw (c .fit .ensures, c .before .pick .ensures, c .before .before .wide2 .ensures, c .before .before .before .wide .ensures)
-    (counts-few (s .args .q) (s .args .s) (meaning (s .args .r)) (s .pre .1 .sum))
+    rw (c .fit .ensures, c .before .pick .ensures) (counts-few (s .args .q) (s .args .s) (meaning (s .args .r)) (s .pre .1 .sum))
 
-wide-requires : tie.Need-wide-requires
-wide-requires c κs = search needs
+cast-first : tie.Need-cast-first
+cast-first c = search needs
 
-wide-requires-2 : tie.Need-wide-requires-2
-wide-requires-2 c κs = search needs
+cast-count : tie.Need-cast-count
+cast-count c = search needs
 
 pick-requires : tie.Need-pick-requires
 pick-requires c κs = search needs
@@ -40,53 +39,75 @@ less-requires-2 c κs = search needs
 rest-requires : tie.Need-rest-requires
 rest-requires c κs = few (c .before .before .before) .0
 
-used-requires : tie.Need-used-requires
-used-requires c κs = few (c .before .before .before .before) .0
+page-bytes-requires : tie.Need-page-bytes-requires
+page-bytes-requires c κs = few (c .before .before .before .before) .0
 
 add-t13 : tie.Need-add-t13
 add-t13 c =
-    let u = used-few (c .before .before .before .before .before .before .before .before .before .before .args .q .tagged) (c .before .before .before .before .before .before .fit .result) (few (c .before .before .before .before .before .before) .0) in
-    let v = rw (← c .before .used .ensures) at u in
-    omega (arith, v, c .before .before .before .before .before .before .before .before .before .before .pre .1 .at)
+    let fitted = c .before .before .before .before .before .before in
+    let s = fitted .before .before .before .before in
+    let u = page-bytes-few (s .args .q .tagged) (fitted .fit .result) (few fitted .0) in
+    let v = rw (← c .before .page-bytes .ensures) at u in
+    omega (arith, v, s .pre .1 .at)
 
 add-t14 : tie.Need-add-t14
-add-t14 c = let n = few (c .before .before .before .before .before .before .before) in omega (arith, n .1, c .before .before .before .before .before .before .before .before .before .before .before .pre .1 .sum)
+add-t14 c =
+    let fitted = c .before .before .before .before .before .before .before in
+    let s = fitted .before .before .before .before in
+    omega (arith, few fitted, s .pre .1 .sum)
 
-used-requires-2 : tie.Need-used-requires-2
-used-requires-2 c κs = few (c .before .before .before .before .before .before .before) .1
+page-bytes-requires-2 : tie.Need-page-bytes-requires-2
+page-bytes-requires-2 c κs = omega (arith, few (c .before .before .before .before .before .before .before))
 
 add-t16 : tie.Need-add-t16
 add-t16 c =
-    let u = used-few (c .before .before .before .before .before .before .before .before .before .before .before .before .before .args .q .tagged) (c .before .before .before .before .before .before .before .before .before .before .pick .result) (few (c .before .before .before .before .before .before .before .before .before) .1) in
-    let v = rw (← c .before .used2 .ensures) at u in
-    omega (arith, v, c .before .before .before .before .before .before .before .before .before .before .before .before .before .pre .1 .total)
+    let fitted = c .before .before .before .before .before .before .before .before .before in
+    let s = fitted .before .before .before .before in
+    let u = page-bytes-few (s .args .q .tagged) (fitted .fit .result) (few fitted .0) in
+    let v = page-bytes-few (s .args .q .tagged) (fitted .before .pick .result) (few fitted .1) in
+    omega (arith, c .before .page-bytes2 .ensures, u, v, s .pre .1 .total)
 
 add-lead : tie.Need-add-lead
-add-lead c = omega (arith, c .before .before .before .before .before .before .before .before .before .before .before .before .before .pre .0 .1 .begins, c .before .before .before .before .before .before .before .before .before .before .before .before .before .pre .0 .0, c .before .before .before .before .before .before .before .before .less .ensures, c .before .before .before .before .before .before .before .before .before .before .before .before .wide .ensures)
+add-lead c =
+    let skipped = c .before .before .before .before .before .before .before .before in
+    let s = skipped .before .before .before .before .before in
+    omega (arith, s .pre .0 .1 .begins, s .pre .0 .0, skipped .less .ensures)
 
 lead-requires : tie.Need-lead-requires
 lead-requires c κs = search needs
 
 returns : tie.Need-returns
 unfolding stepOf
-returns c = rw (c .lead .ensures, c .before .before .before .before .before .before .before .before .before .less .ensures, c .before .before .used2 .ensures, c .before .before .before .before .before .used .ensures, c .before .before .before .before .before .before .rest .ensures, c .before .before .before .before .before .before .before .less2 .ensures, c .before .before .before .before .before .before .before .before .before .before .fit .ensures, c .before .before .before .before .before .before .before .before .before .before .before .pick .ensures, c .before .before .before .before .before .before .before .before .before .before .before .before .wide2 .ensures, c .before .before .before .before .before .before .before .before .before .before .before .before .before .wide .ensures)
+returns c =
+    let paged = c .before .before .before .before .before in
+    let skipped = paged .before .before .before .before in
+    rw (
+      c .lead .ensures,
+      skipped .less .ensures,
+      c .before .before .page-bytes2 .ensures,
+      paged .page-bytes .ensures,
+      paged .before .rest .ensures,
+      paged .before .before .less2 .ensures,
+      skipped .before .fit .ensures,
+      skipped .before .before .pick .ensures,
+    )
 
 pub step-spec : {M : Type 1} → statement M
 step-spec =
     tie.close
     (tie.spec
-    wide-requires
-    wide-requires-2
+    cast-first
+    cast-count
     pick-requires
     fit-requires
     less-requires
     add-t9
     less-requires-2
     rest-requires
-    used-requires
+    page-bytes-requires
     add-t13
     add-t14
-    used-requires-2
+    page-bytes-requires-2
     add-t16
     add-lead
     lead-requires

@@ -33,7 +33,7 @@ total-requires c κs = search needs
 end-of-requires : tie.Need-end-of-requires
 end-of-requires c κs =
     let p = c .before .before in
-    omega (arith, at-below _ _ _ (p .before .before .find .ensures) _ (p .first .given .1))
+    omega (arith, at-below _ _ _ _ (p .before .before .find .ensures) _ (p .first .given .1))
 
 returns-3 : tie.Need-returns-3
 returns-3 c =

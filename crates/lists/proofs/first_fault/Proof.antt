@@ -3,17 +3,17 @@ use Prim.Native.Nat.{_-_}
 use native.Mathlib.Omega.{arith}
 use borrow.Author.Needs.{needs}
 use Rattle.rules.specs.Holds.{descriptors}
-use Rattle.tables.specs.Ranges.{rosterOf}
+use Rattle.tables.specs.Ranges.{laid}
 use Rattle.reader.proofs.Places.{next-place}
 use Rattle.lists.proofs.Faults.{Judged, judged-start, judged-fault, judged-more, judged-end}
 use Rattle.lists.proofs.first_fault.Statement.{statement}
 use Rattle.lists.proofs.first_fault.Tie as tie
 
 abbrev Inv-loop : tie.InvT-loop
-Inv-loop rs list stop at₀ at = Judged (rosterOf rs) list stop at
+Inv-loop runs list stop at₀ at = Judged (laid runs) list stop at
 
 abbrev μ-loop : tie.MeasureT-loop
-μ-loop rs list stop at₀ at = stop - at
+μ-loop runs list stop at₀ at = stop - at
 
 stop-requires : tie.Need-stop-requires Inv-loop μ-loop
 stop-requires c κs = search needs
@@ -27,17 +27,19 @@ read-at-requires c κs = omega (arith, c .before .before .stop .ensures)
 
 fault-of-requires : tie.Need-fault-of-requires Inv-loop μ-loop
 unfolding descriptors
-fault-of-requires c κs = (search needs, omega (arith, c .before .before .before .stop .ensures))
+fault-of-requires c κs =
+    let n = c .before .before .before in
+    record { typed = n .before .before .pre; whole = search needs; within = omega (arith, n .stop .ensures) }
 
-enum-known-asc : tie.Need-enum-known-asc Inv-loop μ-loop
-enum-known-asc c = search needs
+enum-known-cause : tie.Need-enum-known-cause Inv-loop μ-loop
+enum-known-cause c = search needs
 
 returns : tie.Need-returns Inv-loop μ-loop
 returns c =
     let f = c .before .before .before in
     let d = f .before in
     let t = d .before in
-    judged-fault _ _ _ (t .before .before .stop .ensures) _ (t .before .loop .inv) (t .loop-test .taken) _ (d .read-at .ensures) _ (f .fault-of .ensures) _ _ (c .before .asc .given .1)
+    judged-fault _ _ _ (t .before .before .stop .ensures) _ (t .before .loop .inv) (t .loop-test .taken) _ (d .read-at .ensures) _ (f .fault-of .ensures) _ (c .before .cause .given .1)
 
 enum-told : tie.Need-enum-told Inv-loop μ-loop
 enum-told c = search needs
@@ -58,4 +60,4 @@ returns-2 c = judged-end _ _ _ (c .before .before .stop .ensures) _ (c .before .
 pub first-fault-spec : {M : Type 1} → statement M
 first-fault-spec =
     tie.close
-    (tie.spec Inv-loop μ-loop stop-requires loop-holds read-at-requires fault-of-requires enum-known-asc returns enum-told loop-less loop-again returns-2)
+    (tie.spec Inv-loop μ-loop stop-requires loop-holds read-at-requires fault-of-requires enum-known-cause returns enum-told loop-less loop-again returns-2)

@@ -1,13 +1,13 @@
 -- `lists::meet` meets its contract. Assumes nothing.
+use Rattle.rules.proofs.Rungs.{as-choice, last-of-all}
 use Rattle.rules.proofs.Ladder.{ladder}
 use Rattle.lists.specs.Named.{meets}
-use Rattle.lists.proofs.Searches.{as-choice, all-last}
 use Rattle.lists.proofs.meet.Statement.{statement}
 use Rattle.lists.proofs.meet.Tie as tie
 
 returns : tie.Need-returns
 unfolding meets
-returns c = as-choice _ _ (search (ladder, all-last) depth 10)
+returns c = as-choice _ _ (search (ladder, last-of-all) depth 10)
 
 returns-2 : tie.Need-returns-2
 unfolding meets

@@ -3,24 +3,25 @@ use Prim.Native.Nat.{_-_, _/_, _%_}
 use native.Mathlib.Omega.{arith}
 use mathlib.Core.Path.{_≡_, refl, sym, ap, _∙_}
 use borrow.Author.Needs.{needs}
-use Rattle.rules.specs.Holds.{descriptorSize}
-use Rattle.tables.specs.Ranges.{rosterOf}
+use Rattle.rules.proofs.Loops.{Failed, failed-none, found-there, found-nowhere}
+use Rattle.rules.specs.Tables.{descriptorSize}
+use Rattle.tables.specs.Ranges.{laid}
 use Rattle.reader.proofs.Places.{next-place}
 use Rattle.lists.specs.Named.{meets, spanAt, meetsBefore}
-use Rattle.lists.proofs.Searches.{Passed, passed-none, passed-next, found-there, found-nowhere}
+use Rattle.lists.proofs.Searches.{failed-next}
 use Rattle.lists.proofs.Faults.{span-at}
 use Rattle.lists.proofs.named_before.Statement.{statement}
 use Rattle.lists.proofs.named_before.Tie as tie
 
 abbrev Inv-loop : tie.InvT-loop
-Inv-loop rs list at s before₀ before =
-    (before % descriptorSize ≡ 0) × Passed (λ k. meets s (spanAt (rosterOf rs) list k)) 0 (before / descriptorSize)
+Inv-loop runs list at s before₀ before =
+    (before % descriptorSize ≡ 0) × Failed (λ k. meets s (spanAt (laid runs) list k)) 0 (before / descriptorSize)
 
 abbrev μ-loop : tie.MeasureT-loop
-μ-loop rs list at s before₀ before = at - before
+μ-loop runs list at s before₀ before = at - before
 
 loop-holds : tie.Need-loop-holds Inv-loop μ-loop
-loop-holds c = (refl, passed-none _ 0)
+loop-holds c = (refl, failed-none _ 0)
 
 read-at-requires : tie.Need-read-at-requires Inv-loop μ-loop
 read-at-requires c κs = search needs
@@ -50,7 +51,7 @@ loop-again c =
     let a = next-place _ _ _ (d .read-at .ensures) in
     let l = d .before .before .loop .inv in
     let e = span-at _ _ _ _ _ (l .0) (d .read-at .ensures) (m .before .span-of .ensures) in
-    (omega arith, passed-next _ _ _ (l .1) (ap (meets _) (sym e) ∙ sym (m .meet .ensures) ∙ c .if1 .left) a)
+    (omega arith, failed-next _ _ _ (l .1) (ap (meets _) (sym e) ∙ sym (m .meet .ensures) ∙ c .if1 .left) a)
 
 returns-2 : tie.Need-returns-2 Inv-loop μ-loop
 unfolding meetsBefore

@@ -1,8 +1,9 @@
 -- `lists::span_of` meets its contract. Assumes nothing.
 use native.Mathlib.Omega.{arith}
 use borrow.Author.Needs.{needs}
-use Rattle.tables.specs.Ranges.{rosterOf}
-use Rattle.lists.proofs.Faults.{place-most, span-is}
+use Rattle.tables.specs.Ranges.{laid}
+use Rattle.tables.proofs.LookUp.{place-most}
+use Rattle.lists.proofs.Faults.{span-is}
 use Rattle.lists.proofs.span_of.Statement.{statement}
 use Rattle.lists.proofs.span_of.Tie as tie
 
@@ -15,7 +16,7 @@ place-of-requires c κs = search needs
 end-of-requires : tie.Need-end-of-requires
 end-of-requires c κs =
     let s = c .before .before .args in
-    omega (arith, place-most (rosterOf (s .rs)) (s .d .address))
+    omega (arith, place-most (laid (s .runs)) (s .d .address))
 
 returns : tie.Need-returns
 returns c =

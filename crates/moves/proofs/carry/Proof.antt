@@ -5,13 +5,12 @@ use borrow.Author.Needs.{needs}
 use Rattle.moves.proofs.carry.Statement.{statement}
 use Rattle.moves.proofs.carry.Tie as tie
 
-volume-requires : tie.Need-volume-requires
-unfolding places
-volume-requires c κs = search needs
-
 fill-requires : tie.Need-fill-requires
 unfolding places
 fill-requires c κs = search needs
+
+word-at-requires : tie.Need-word-at-requires
+word-at-requires c κs = search needs
 
 fill-requires-2 : tie.Need-fill-requires-2
 unfolding places
@@ -21,7 +20,11 @@ same-length : tie.Need-same-length
 same-length c = search needs
 
 returns : tie.Need-returns
-returns c = carried-by _ _ _ _ _ _ _ (c .before .before .before .before .before .before .before .before .volume .ensures) (c .before .before .before .before .before .before .fill .ensures) (c .before .before .fill2 .ensures)
+returns c =
+    let filled = c .before .before .before in
+    let left = filled .before .before .before .before in
+    carried-by _ _ _ _ _ _ _ _ (left .fill .ensures) (filled .word-at .ensures) (c .before .before .fill2 .ensures)
 
 pub carry-spec : {M : Type 1} → statement M
-carry-spec = tie.close (tie.spec volume-requires fill-requires fill-requires-2 same-length returns)
+carry-spec =
+    tie.close (tie.spec fill-requires word-at-requires fill-requires-2 same-length returns)

@@ -1,10 +1,9 @@
 -- `moves::exchange_spots` meets its contract. Assumes nothing.
-use mathlib.Core.Path.{refl, sym, _∙_}
+use Rattle.tables.proofs.LookUp.{at-yes, found-by}
 use Rattle.rules.proofs.Ladder.{eq-is, eq-not}
+use mathlib.Core.Path.{refl, sym, _∙_}
 use Rattle.moves.specs.Judged.{exchangeSpots}
-use Rattle.rules.proofs.Rungs.{below-as}
-use Rattle.moves.proofs.Answers.{at-yes, at-no, spot-by, same-by, equal-by}
-use Rattle.moves.proofs.Spots.{spot-in}
+use Rattle.moves.proofs.Answers.{same-by, looking, recorded}
 use borrow.Author.Needs.{needs}
 use Rattle.moves.proofs.exchange_spots.Statement.{statement}
 use Rattle.moves.proofs.exchange_spots.Tie as tie
@@ -18,11 +17,11 @@ word-at-requires-2 c κs = search needs
 word-at-requires-3 : tie.Need-word-at-requires-3
 word-at-requires-3 c κs = search needs
 
-cast-spot-at : tie.Need-cast-spot-at
-cast-spot-at c = search needs
+cast-find : tie.Need-cast-find
+cast-find c = search needs
 
-spot-at-requires : tie.Need-spot-at-requires
-spot-at-requires c κs = search needs
+find-requires : tie.Need-find-requires
+find-requires c κs = search needs
 
 enum-known-from : tie.Need-enum-known-from
 enum-known-from c = search needs
@@ -32,13 +31,13 @@ enum-told c = search needs
 
 returns : tie.Need-returns
 unfolding exchangeSpots
-returns c = (at-no _ _ _ _ _ (spot-by _ _ _ _ (c .before .before .spot-at .ensures) (c .before .before .before .before .before .word-at .ensures)) (c .enum-told .given .1) refl, tt)
+returns c = (search looking depth 14, tt)
 
-cast-spot-at-2 : tie.Need-cast-spot-at-2
-cast-spot-at-2 c = search needs
+cast-find-2 : tie.Need-cast-find-2
+cast-find-2 c = search needs
 
-spot-at-requires-2 : tie.Need-spot-at-requires-2
-spot-at-requires-2 c κs = search needs
+find-requires-2 : tie.Need-find-requires-2
+find-requires-2 c κs = search needs
 
 enum-known-first : tie.Need-enum-known-first
 enum-known-first c = search needs
@@ -48,13 +47,13 @@ enum-told-2 c = search needs
 
 returns-2 : tie.Need-returns-2
 unfolding exchangeSpots
-returns-2 c = (at-yes _ _ _ _ _ _ (spot-by _ _ _ _ (c .before .before .before .before .before .before .spot-at .ensures) (c .before .before .before .before .before .before .before .before .before .word-at .ensures)) (c .before .before .before .before .from .given .1) (at-no _ _ _ _ _ (spot-by _ _ _ _ (c .before .before .spot-at2 .ensures) (c .before .before .before .before .before .before .before .before .word-at2 .ensures)) (c .enum-told2 .given .1) refl), tt)
+returns-2 c = (search looking depth 14, tt)
 
-cast-spot-at-3 : tie.Need-cast-spot-at-3
-cast-spot-at-3 c = search needs
+cast-find-3 : tie.Need-cast-find-3
+cast-find-3 c = search needs
 
-spot-at-requires-3 : tie.Need-spot-at-requires-3
-spot-at-requires-3 c κs = search needs
+find-requires-3 : tie.Need-find-requires-3
+find-requires-3 c κs = search needs
 
 enum-known-second : tie.Need-enum-known-second
 enum-known-second c = search needs
@@ -64,18 +63,48 @@ enum-told-3 c = search needs
 
 returns-3 : tie.Need-returns-3
 unfolding exchangeSpots
-returns-3 c = (at-yes _ _ _ _ _ _ (spot-by _ _ _ _ (c .before .before .before .before .before .before .before .before .before .before .spot-at .ensures) (c .before .before .before .before .before .before .before .before .before .before .before .before .before .word-at .ensures)) (c .before .before .before .before .before .before .before .before .from .given .1) (at-yes _ _ _ _ _ _ (spot-by _ _ _ _ (c .before .before .before .before .before .before .spot-at2 .ensures) (c .before .before .before .before .before .before .before .before .before .before .before .before .word-at2 .ensures)) (c .before .before .before .before .first .given .1) (at-no _ _ _ _ _ (spot-by _ _ _ _ (c .before .before .spot-at3 .ensures) (c .before .before .before .before .before .before .before .before .before .before .before .word-at3 .ensures)) (c .enum-told3 .given .1) refl)), tt)
+returns-3 c = (search looking depth 14, tt)
 
 returns-4 : tie.Need-returns-4
 unfolding exchangeSpots
-returns-4 c = (at-yes _ _ _ _ _ _ (spot-by _ _ _ _ (c .before .before .before .before .before .before .before .before .before .before .before .before .spot-at .ensures) (c .before .before .before .before .before .before .before .before .before .before .before .before .before .before .before .word-at .ensures)) (c .before .before .before .before .before .before .before .before .before .before .from .given .1) (at-yes _ _ _ _ _ _ (spot-by _ _ _ _ (c .before .before .before .before .before .before .before .before .spot-at2 .ensures) (c .before .before .before .before .before .before .before .before .before .before .before .before .before .before .word-at2 .ensures)) (c .before .before .before .before .before .before .first .given .1) (at-yes _ _ _ _ _ _ (spot-by _ _ _ _ (c .before .before .before .before .spot-at3 .ensures) (c .before .before .before .before .before .before .before .before .before .before .before .before .before .word-at3 .ensures)) (c .before .before .second .given .1) (eq-is _ _ _ _ _ (equal-by _ _ _ _ (c .before .before .before .before .before .before .before .before .before .before .before .before .before .before .word-at2 .ensures) (c .before .before .before .before .before .before .before .before .before .before .before .before .before .before .before .word-at .ensures) (c .if1 .taken)) refl))), tt)
+returns-4 c =
+    let second = c .before .before in
+    let farther = second .before .before in
+    let first = farther .before .before in
+    let nearer = first .before .before in
+    let from = nearer .before .before in
+    let source = from .before .before in
+    let eight = source .before .word-at3 .ensures in
+    let six = source .before .before .word-at2 .ensures in
+    let four = source .before .before .before .word-at .ensures in (
+      at-yes _ _ _ _ _ _ (found-by _ _ _ _ _ (source .find .ensures) four) (from .from .given .1)
+          (at-yes _ _ _ _ _ _ (found-by _ _ _ _ _ (nearer .find2 .ensures) six) (first .first .given .1)
+          (at-yes _ _ _ _ _ _ (found-by _ _ _ _ _ (farther .find3 .ensures) eight) (second .second .given .1)
+          (eq-is _ _ _ _ _ (sym six ∙ c .if1 .taken ∙ four) refl))),
+      tt,
+    )
 
 exchange-at-requires : tie.Need-exchange-at-requires
-exchange-at-requires c κs = (c .before .before .before .before .before .before .before .before .before .before .before .before .before .before .before .before .before .before .pre .1 .1, (below-as _ _ _ (c .before .before .before .before .before .before .before .before .before .before .before .before .before .before .before .before .before .before .pre .0) (spot-in _ _ _ _ (c .before .before .before .before .before .before .before .before .before .before .from .given .1) (c .before .before .before .before .before .before .before .before .before .before .before .before .spot-at .ensures)), (below-as _ _ _ (c .before .before .before .before .before .before .before .before .before .before .before .before .before .before .before .before .before .before .pre .0) (spot-in _ _ _ _ (c .before .before .before .before .before .before .first .given .1) (c .before .before .before .before .before .before .before .before .spot-at2 .ensures)), below-as _ _ _ (c .before .before .before .before .before .before .before .before .before .before .before .before .before .before .before .before .before .before .pre .0) (spot-in _ _ _ _ (c .before .before .second .given .1) (c .before .before .before .before .spot-at3 .ensures)))))
+exchange-at-requires c κs = (search needs, (search recorded depth 4, (search recorded depth 4, search recorded depth 4)))
 
 returns-5 : tie.Need-returns-5
 unfolding exchangeSpots
-returns-5 c = (at-yes _ _ _ _ _ _ (spot-by _ _ _ _ (c .before .before .before .before .before .before .before .before .before .before .before .before .before .spot-at .ensures) (c .before .before .before .before .before .before .before .before .before .before .before .before .before .before .before .before .word-at .ensures)) (c .before .before .before .before .before .before .before .before .before .before .before .from .given .1) (at-yes _ _ _ _ _ _ (spot-by _ _ _ _ (c .before .before .before .before .before .before .before .before .before .spot-at2 .ensures) (c .before .before .before .before .before .before .before .before .before .before .before .before .before .before .before .word-at2 .ensures)) (c .before .before .before .before .before .before .before .first .given .1) (at-yes _ _ _ _ _ _ (spot-by _ _ _ _ (c .before .before .before .before .before .spot-at3 .ensures) (c .before .before .before .before .before .before .before .before .before .before .before .before .before .before .word-at3 .ensures)) (c .before .before .before .second .given .1) (eq-not _ _ _ _ _ (λ q. c .before .if1 .left (c .before .before .before .before .before .before .before .before .before .before .before .before .before .before .before .word-at2 .ensures ∙ q ∙ sym (c .before .before .before .before .before .before .before .before .before .before .before .before .before .before .before .before .word-at .ensures))) (same-by _ _ _ _ _ _ _ _ _ _ _ (c .exchange-at .ensures .0) (c .before .before .before .before .before .before .before .before .before .before .before .before .before .before .word-at3 .ensures) (c .before .before .before .before .before .before .before .before .before .before .before .before .before .before .before .before .word-at .ensures))))), c .exchange-at .ensures .1)
+returns-5 c =
+    let second = c .before .before .before in
+    let farther = second .before .before in
+    let first = farther .before .before in
+    let nearer = first .before .before in
+    let from = nearer .before .before in
+    let source = from .before .before in
+    let eight = source .before .word-at3 .ensures in
+    let six = source .before .before .word-at2 .ensures in
+    let four = source .before .before .before .word-at .ensures in (
+      at-yes _ _ _ _ _ _ (found-by _ _ _ _ _ (source .find .ensures) four) (from .from .given .1)
+          (at-yes _ _ _ _ _ _ (found-by _ _ _ _ _ (nearer .find2 .ensures) six) (first .first .given .1)
+          (at-yes _ _ _ _ _ _ (found-by _ _ _ _ _ (farther .find3 .ensures) eight) (second .second .given .1)
+          (eq-not _ _ _ _ _ (λ e. c .before .if1 .left (six ∙ e ∙ sym four)) (same-by _ _ _ _ _ _ _ _ _ _ _ (c .exchange-at .ensures .0) eight four)))),
+      c .exchange-at .ensures .1,
+    )
 
 pub exchange-spots-spec : {M : Type 1} → statement M
 exchange-spots-spec =
@@ -84,18 +113,18 @@ exchange-spots-spec =
     word-at-requires
     word-at-requires-2
     word-at-requires-3
-    cast-spot-at
-    spot-at-requires
+    cast-find
+    find-requires
     enum-known-from
     enum-told
     returns
-    cast-spot-at-2
-    spot-at-requires-2
+    cast-find-2
+    find-requires-2
     enum-known-first
     enum-told-2
     returns-2
-    cast-spot-at-3
-    spot-at-requires-3
+    cast-find-3
+    find-requires-3
     enum-known-second
     enum-told-3
     returns-3

@@ -4,17 +4,13 @@ use borrow.Author.Needs.{needs}
 use Rattle.moves.proofs.move_medium.Statement.{statement}
 use Rattle.moves.proofs.move_medium.Tie as tie
 
-ranges-requires : tie.Need-ranges-requires
-ranges-requires c κs = search needs
-
-first-transport-requires : tie.Need-first-transport-requires
-first-transport-requires c κs = search needs
-
 judge-move-requires : tie.Need-judge-move-requires
-judge-move-requires c κs = (records-are _ _ _ (c .before .before .before .ranges .ensures) (c .before .before .before .before .before .before .before .before .pre .0 .records), c .before .before .before .before .before .before .before .before .pre .1 .1)
+judge-move-requires c κs =
+    let start = c .before .before .before .before in
+    (records-are _ _ _ (start .pre .0), start .pre .1 .1)
 
-settle-requires : tie.Need-settle-requires
-settle-requires c κs = search needs
+carry-out-requires : tie.Need-carry-out-requires
+carry-out-requires c κs = search needs
 
 same-length : tie.Need-same-length
 same-length c = search needs
@@ -23,16 +19,11 @@ same-length-2 : tie.Need-same-length-2
 same-length-2 c = search needs
 
 returns : tie.Need-returns
-returns c = λ rest buffer. rw (move-judged _ _ _ rest _ _ _ _ (c .before .before .before .before .before .before .before .before .before .before .before .ranges .ensures) (c .before .before .before .before .before .before .before .before .before .first-transport .ensures) (c .before .before .before .before .before .before .before .judge-move .ensures .0)) at (c .before .before .before .before .settle .ensures rest buffer)
+returns c =
+    let ending = c .before .before .before .before in
+    let judging = ending .before .before .before in
+    λ rest buffer. rw (move-judged _ _ _ (judging .before .before .before .before .before .pre .0) _ rest _ _ (judging .judge-move .ensures .0)) at (ending .carry-out .ensures rest buffer)
 
 pub move-medium-spec : {M : Type 1} → statement M
 move-medium-spec =
-    tie.close
-    (tie.spec
-    ranges-requires
-    first-transport-requires
-    judge-move-requires
-    settle-requires
-    same-length
-    same-length-2
-    returns)
+    tie.close (tie.spec judge-move-requires carry-out-requires same-length same-length-2 returns)

@@ -1,4 +1,7 @@
 -- `pages::describe` meets its contract. Assumes nothing.
+use mathlib.Core.Path.{ap, _∙_}
+use native.Mathlib.Omega.{arith}
+use lib.ListN.{length}
 use Rattle.rules.specs.Choice.{when}
 use Rattle.rules.specs.Listing.{descriptor, width}
 use Rattle.pages.proofs.Descriptor.{label-length}
@@ -19,14 +22,22 @@ flags-requires : tie.Need-flags-requires
 flags-requires c κs = search needs
 
 label-requires : tie.Need-label-requires
-label-requires c κs = rw (c .before .before .before .before .before .volume .ensures) (c .before .before .before .before .before .before .before .before .before .before .pre .1 .1 .1 .volumes (c .before .before .before .before .before .before .before .before .before .before .args .place) (c .before .before .before .before .before .before .before .before .before .before .pre .1 .1 .0))
+label-requires c κs =
+    let read = c .before .before .before .before .before in
+    let s = read .before .before .before .before .before in
+    omega (arith, read .volume .ensures, s .pre .1 .1 .1 .volumes (s .args .place) (s .pre .1 .1 .0))
 
 with-label-requires : tie.Need-with-label-requires
 unfolding width when
 with-label-requires c κs =
-    let s = (c .before .before .before .before .before .before .before .before .before .before .before) in
-    let v = s .pre .1 .1 .1 .volumes (s .args .place) (s .pre .1 .1 .0) in
-    (rw (c .before .before .if1 .taken) at (s .pre .0), (s .pre .1 .0, rw (c .label .ensures, c .before .before .before .before .before .before .volume .ensures) (label-length _ _ _ (s .pre .1 .1 .1 .blank) v)))
+    let tested = c .before .before in
+    let read = tested .before .before .before .before in
+    let s = read .before .before .before .before .before in
+    let l = s .pre .1 .1 .1 in
+    let v = l .volumes (s .args .place) (s .pre .1 .1 .0) in (
+      rw (tested .if1 .taken) at (s .pre .0),
+      (s .pre .1 .0, ap length (c .label .ensures) ∙ label-length _ _ _ (l .blank) (omega (arith, read .volume .ensures, v))),
+    )
 
 without-label-requires : tie.Need-without-label-requires
 unfolding width when

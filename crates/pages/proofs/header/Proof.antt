@@ -1,5 +1,5 @@
 -- `pages::header` meets its contract. Assumes nothing.
-use mathlib.Core.Path.{refl}
+use mathlib.Core.Path.{_∙_}
 use native.Mathlib.Omega.{arith}
 use lib.ListN.{length-set}
 use Rattle.rules.specs.Bytes.{put, three}
@@ -8,76 +8,52 @@ use borrow.Author.Needs.{needs}
 use Rattle.pages.proofs.header.Statement.{statement}
 use Rattle.pages.proofs.header.Tie as tie
 
-cast-d : tie.Need-cast-d
-cast-d c = search needs
+cast-put-word : tie.Need-cast-put-word
+cast-put-word c = search needs
+
+put-word-requires : tie.Need-put-word-requires
+put-word-requires c κs = search needs
+
+cast-put-word-2 : tie.Need-cast-put-word-2
+cast-put-word-2 c = search needs
+
+put-word-requires-2 : tie.Need-put-word-requires-2
+put-word-requires-2 c κs = search needs
 
 slice-write-d : tie.Need-slice-write-d
 slice-write-d c = search needs
 
-cast-d-2 : tie.Need-cast-d-2
-cast-d-2 c = search needs
+cast-put-triple : tie.Need-cast-put-triple
+cast-put-triple c = search needs
 
-slice-write-d-2 : tie.Need-slice-write-d-2
-slice-write-d-2 c = simp length-set (omega arith)
-
-cast-d-3 : tie.Need-cast-d-3
-cast-d-3 c = search needs
-
-slice-write-d-3 : tie.Need-slice-write-d-3
-slice-write-d-3 c = simp length-set (omega arith)
-
-cast-d-4 : tie.Need-cast-d-4
-cast-d-4 c = search needs
-
-slice-write-d-4 : tie.Need-slice-write-d-4
-slice-write-d-4 c = simp length-set (omega arith)
-
-slice-write-d-5 : tie.Need-slice-write-d-5
-slice-write-d-5 c = simp length-set (omega arith)
-
-cast-d-5 : tie.Need-cast-d-5
-cast-d-5 c = search needs
-
-slice-write-d-6 : tie.Need-slice-write-d-6
-slice-write-d-6 c = simp length-set (omega arith)
-
-cast-d-6 : tie.Need-cast-d-6
-cast-d-6 c = search needs
-
-slice-write-d-7 : tie.Need-slice-write-d-7
-slice-write-d-7 c = simp length-set (omega arith)
-
-cast-d-7 : tie.Need-cast-d-7
-cast-d-7 c = search needs
-
-slice-write-d-8 : tie.Need-slice-write-d-8
-slice-write-d-8 c = simp length-set (omega arith)
+put-triple-requires : tie.Need-put-triple-requires
+put-triple-requires c κs = (simp length-set (omega arith), search needs)
 
 same-length : tie.Need-same-length
-same-length c = search needs
+same-length c =
+    let three = c .before .before in
+    let second = three .before .before .before .before in
+    let first = second .before .before .before .before in
+    three .put-triple .kept .0 ∙ simp length-set (second .put-word2 .kept .0 ∙ first .put-word .kept .0)
 
 returns : tie.Need-returns
 unfolding put header three
-returns c = refl
+returns c =
+    let three = c .before .before in
+    let second = three .before .before .before .before in
+    let first = second .before .before .before .before in
+    rw (three .put-triple .ensures, second .put-word2 .ensures, first .put-word .ensures)
 
 pub header-spec : {M : Type 1} → statement M
 header-spec =
     tie.close
     (tie.spec
-    cast-d
+    cast-put-word
+    put-word-requires
+    cast-put-word-2
+    put-word-requires-2
     slice-write-d
-    cast-d-2
-    slice-write-d-2
-    cast-d-3
-    slice-write-d-3
-    cast-d-4
-    slice-write-d-4
-    slice-write-d-5
-    cast-d-5
-    slice-write-d-6
-    cast-d-6
-    slice-write-d-7
-    cast-d-7
-    slice-write-d-8
+    cast-put-triple
+    put-triple-requires
     same-length
     returns)

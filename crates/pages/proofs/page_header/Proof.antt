@@ -1,6 +1,9 @@
 -- `pages::page_header` meets its contract. Assumes nothing.
+use mathlib.Core.Path.{_≡_, _∙_}
+use Prim.Native.Nat.{_*_, _<_, _≤_}
 use native.Mathlib.Omega.{arith}
-use lib.ListN.{length-set}
+use lib.ListN.{length, length-set}
+use denote.Ref.{now}
 use Rattle.rules.specs.Bytes.{put, three}
 use Rattle.rules.specs.Listing.{pageHeader}
 use Rattle.pages.proofs.Descriptor.{times-width, width-few}
@@ -8,11 +11,17 @@ use borrow.Author.Needs.{needs}
 use Rattle.pages.proofs.page_header.Statement.{statement}
 use Rattle.pages.proofs.page_header.Tie as tie
 
+-- the bytes of a descriptor, and of all of them, are few
+few : (c : tie.After-width) → (c .width .result ≤ 52) × (c .before .before .args .n * c .width .result < 3407872)
+few c =
+    let s = c .before .before in
+    rw (c .width .ensures) (width-few (s .args .tagged) .1, times-width (s .args .tagged) (s .args .n) (s .pre .1))
+
 width-requires : tie.Need-width-requires
 width-requires c κs = search needs
 
 mul-bytes : tie.Need-mul-bytes
-mul-bytes c = omega (arith, rw (← c .width .ensures) at (times-width (c .before .before .args .tagged) (c .before .before .args .n) (c .before .before .pre .1)))
+mul-bytes c = omega (arith, few c)
 
 slice-write-d : tie.Need-slice-write-d
 slice-write-d c = search needs
@@ -23,45 +32,37 @@ tag-mark-requires c κs = search needs
 slice-write-d-2 : tie.Need-slice-write-d-2
 slice-write-d-2 c = simp length-set (omega arith)
 
-cast-d : tie.Need-cast-d
-cast-d c = omega (arith, rw (← c .before .width .ensures) at (width-few (c .before .before .before .args .tagged)))
+-- the length is kept
+long : (c : tie.After-put-word) → length (c .put-word .last .0) ≡ length (now (c .before .before .before .before .before .args .d))
+long c = c .put-word .kept .0 ∙ simp length-set
+
+cast-put-word : tie.Need-cast-put-word
+cast-put-word c = omega (arith, few (c .before .before))
+
+put-word-requires : tie.Need-put-word-requires
+put-word-requires c κs = simp length-set (omega arith)
 
 slice-write-d-3 : tie.Need-slice-write-d-3
-slice-write-d-3 c = simp length-set (omega arith)
+slice-write-d-3 c = omega (arith, long (c .before .before))
 
-cast-d-2 : tie.Need-cast-d-2
-cast-d-2 c = search needs
+cast-put-triple : tie.Need-cast-put-triple
+cast-put-triple c = omega (arith, few (c .before .before .before .before .before .before))
 
-slice-write-d-4 : tie.Need-slice-write-d-4
-slice-write-d-4 c = simp length-set (omega arith)
-
-slice-write-d-5 : tie.Need-slice-write-d-5
-slice-write-d-5 c = simp length-set (omega arith)
-
-cast-d-3 : tie.Need-cast-d-3
-cast-d-3 c = omega (arith, rw (← c .before .width .ensures) at (times-width (c .before .before .before .args .tagged) (c .before .before .before .args .n) (c .before .before .before .pre .1)))
-
-slice-write-d-6 : tie.Need-slice-write-d-6
-slice-write-d-6 c = simp length-set (omega arith)
-
-cast-d-4 : tie.Need-cast-d-4
-cast-d-4 c = search needs
-
-slice-write-d-7 : tie.Need-slice-write-d-7
-slice-write-d-7 c = simp length-set (omega arith)
-
-cast-d-5 : tie.Need-cast-d-5
-cast-d-5 c = search needs
-
-slice-write-d-8 : tie.Need-slice-write-d-8
-slice-write-d-8 c = simp length-set (omega arith)
+put-triple-requires : tie.Need-put-triple-requires
+put-triple-requires c κs = (simp length-set (omega (arith, long (c .before .before .before))), omega (arith, few (c .before .before .before .before .before .before)))
 
 same-length : tie.Need-same-length
-same-length c = search needs
+same-length c =
+    let three = c .before .before in
+    three .put-triple .kept .0 ∙ simp length-set (long (three .before .before .before .before))
 
 returns : tie.Need-returns
 unfolding put pageHeader three
-returns c = rw (c .tag-mark .ensures, c .before .width .ensures)
+returns c =
+    let three = c .before .before in
+    let word = three .before .before .before .before in
+    let mark = word .before .before in
+    rw (three .put-triple .ensures, word .put-word .ensures, mark .tag-mark .ensures, mark .before .width .ensures)
 
 pub page-header-spec : {M : Type 1} → statement M
 page-header-spec =
@@ -72,16 +73,10 @@ page-header-spec =
     slice-write-d
     tag-mark-requires
     slice-write-d-2
-    cast-d
+    cast-put-word
+    put-word-requires
     slice-write-d-3
-    cast-d-2
-    slice-write-d-4
-    slice-write-d-5
-    cast-d-3
-    slice-write-d-6
-    cast-d-4
-    slice-write-d-7
-    cast-d-5
-    slice-write-d-8
+    cast-put-triple
+    put-triple-requires
     same-length
     returns)

@@ -14,8 +14,7 @@ use Rattle.rules.specs.Roster.{slots}
 use Rattle.rules.specs.Listing.{pageHeader}
 use Rattle.pages.specs.Pages.{stock, descriptors, shown}
 use Rattle.pages.proofs.Lent.{put-nothing, put-both}
-use Rattle.pages.proofs.Descriptor.{run-length}
-use Rattle.pages.proofs.Descriptor.{used-is}
+use Rattle.pages.proofs.Descriptor.{run-length, page-bytes-is}
 use borrow.Author.Needs.{needs}
 use Rattle.pages.proofs.put_page.Statement.{statement}
 use Rattle.pages.proofs.put_page.Tie as tie
@@ -25,7 +24,7 @@ room : (c : tie.After-width) → c .before .before .before .before .before .befo
     ≤ length (now (c .before .before .before .before .before .before .args .answer))
 room c =
     let s = c .before .before .before .before .before .before in
-    let u = used-is (s .args .tagged) (s .args .m) (c .before .if1 .left) in
+    let u = page-bytes-is (s .args .tagged) (s .args .m) (c .before .if1 .left) in
     rw (c .width .ensures) (omega (arith, u, s .pre .0))
 
 -- and keeps its length once its header is written
@@ -91,14 +90,17 @@ same-length c = search needs
 returns-2 : tie.Need-returns-2
 unfolding shown when
 returns-2 c =
-    let a = c .before .before .before .before .before .before .before .before .before .before .before .before .before .before .args in
-    let w = c .before .before .before .before .before .before .before .before .width in
+    let headed = c .before .before .before .before .before .before in
+    let sized = headed .before .before in
+    let s = sized .before .before .before .before .before .before in
+    let a = s .args in
+    let w = sized .width in
     let t = stock (now (a .elements)) (now (a .tags)) (now (a .blank)) in
     let d : List _ = descriptors (a .tagged) t (slots (a .kind) (a .address) (a .place) (a .m)) in
-    let e : length d ≡ a .m * w .result = rw (w .ensures) (run-length (a .tagged) t (a .kind) (a .address) (a .place) (a .m) (c .before .before .before .before .before .before .before .before .before .before .before .before .before .before .pre .1 .1 .1) (c .before .before .before .before .before .before .before .before .before .before .before .before .before .before .pre .1 .1 .0)) in
-    let f = room (c .before .before .before .before .before .before .before .before) in
+    let e : length d ≡ a .m * w .result = rw (w .ensures) (run-length (a .tagged) t (a .kind) (a .address) (a .place) (a .m) (s .pre .1 .1 .1) (s .pre .1 .1 .0)) in
+    let f = room sized in
     let h = header-length (a .tagged) (a .kind) (a .n) in
-    rw (c .before .before .describe-run .ensures, c .before .before .before .before .before .before .page-header .ensures, ne-eqb (a .m) 0 (c .before .before .before .before .before .before .before .before .before .if1 .left))
+    rw (c .before .before .describe-run .ensures, headed .page-header .ensures, ne-eqb (a .m) 0 (sized .before .if1 .left))
     (put-both (now (a .answer)) (a .at) (a .at + 8 - a .at) (a .at + 8) (a .at + 8 + a .m * w .result - (a .at + 8)) (pageHeader (a .tagged) (a .kind) (a .n)) d (omega arith) (omega arith) (omega arith) (omega arith))
 
 pub put-page-spec : {M : Type 1} → statement M

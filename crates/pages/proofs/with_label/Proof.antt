@@ -43,15 +43,18 @@ same-length c = search needs
 returns : tie.Need-returns
 unfolding front
 returns c =
-    let a = c .before .before .before .before .before .before .before .before .before .before .before .before .before .before .args in
+    let zeroed = c .before .before in
+    let labelled = zeroed .before .before .before .before in
+    let fronted = labelled .before .before .before .before in
+    let a = fronted .before .before .before .before .args in
     let f : List _ = front (a .address) (a .flags) (a .source) in
     let t : List _ = now (a .label) in
     let n : length t ≡ 36 = omega arith in
     let e : length (f ++ t) ≡ 48 = simp length-append (omega arith) in
     rw (
-      c .before .before .zeros .ensures,
-      c .before .before .before .before .before .before .copy-label .ensures,
-      c .before .before .before .before .before .before .before .before .before .before .front .ensures,
+      zeroed .zeros .ensures,
+      labelled .copy-label .ensures,
+      fronted .front .ensures,
       put-behind (now (a .d)) 0 12 36 f t refl (omega arith) (omega arith),
       put-behind (now (a .d)) 0 48 4 (f ++ t) fourZeros (omega arith) (omega arith) (omega arith),
       append-assoc f t fourZeros,

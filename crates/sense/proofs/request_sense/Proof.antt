@@ -13,12 +13,6 @@ judge-requires c κs = search needs
 enum-told : tie.Need-enum-told
 enum-told c = search needs
 
-check-requires : tie.Need-check-requires
-check-requires c κs = search needs
-
-enum-told-2 : tie.Need-enum-told-2
-enum-told-2 c = search needs
-
 numbered-requires : tie.Need-numbered-requires
 numbered-requires c κs = search needs
 
@@ -40,41 +34,31 @@ same-length : tie.Need-same-length
 same-length c = search needs
 
 returns : tie.Need-returns
-unfolding meaning
-returns c = λ elements rest.
-    let done = c .before .before in
-    let told = done .before .before in
-    by-answer _ _ _ _ _ _ _ (told .before .before .judge .ensures .0) (told .enum-told .given .1) (done .check .ensures elements rest _)
+unfolding meaning outcome
+returns c = λ elements rest. by-answer _ _ _ _ _ _ _ (c .before .before .before .judge .ensures .0) (c .before .enum-told .given .1) (rw (c .numbered .ensures) refl)
 
 same-length-2 : tie.Need-same-length-2
 same-length-2 c = search needs
 
-returns-2 : tie.Need-returns-2
-unfolding meaning outcome
-returns-2 c = λ elements rest. by-answer _ _ _ _ _ _ _ (c .before .before .before .judge .ensures .0) (c .before .enum-told2 .given .1) (rw (c .numbered .ensures) refl)
-
 same-length-3 : tie.Need-same-length-3
 same-length-3 c = search needs
 
-same-length-4 : tie.Need-same-length-4
-same-length-4 c = search needs
-
-returns-3 : tie.Need-returns-3
+returns-2 : tie.Need-returns-2
 unfolding meaning
-returns-3 c = λ elements rest.
+returns-2 c = λ elements rest.
     let done = c .before .before .before .before in
     let told = done .before .before .before .before in
     by-answer _ _ _ _ _ _ _ (told .before .before .judge .ensures .0) (told .count .given .1) (done .tell-attention .ensures elements rest)
 
+same-length-4 : tie.Need-same-length-4
+same-length-4 c = search needs
+
 same-length-5 : tie.Need-same-length-5
 same-length-5 c = search needs
 
-same-length-6 : tie.Need-same-length-6
-same-length-6 c = search needs
-
-returns-4 : tie.Need-returns-4
+returns-3 : tie.Need-returns-3
 unfolding meaning
-returns-4 c = λ elements rest.
+returns-3 c = λ elements rest.
     let done = c .before .before .before .before in
     let told = done .before .before .before .before in
     by-answer _ _ _ _ _ _ _ (told .before .before .judge .ensures .0) (told .count2 .given .1) (done .tell-sense .ensures elements rest)
@@ -85,8 +69,6 @@ request-sense-spec =
     (tie.spec
     judge-requires
     enum-told
-    check-requires
-    enum-told-2
     numbered-requires
     enum-known-count
     tell-attention-requires
@@ -95,10 +77,8 @@ request-sense-spec =
     same-length
     returns
     same-length-2
-    returns-2
     same-length-3
+    returns-2
     same-length-4
-    returns-3
     same-length-5
-    same-length-6
-    returns-4)
+    returns-3)

@@ -1,8 +1,9 @@
 -- `sense::tell` meets its contract. Assumes nothing.
 use mathlib.Core.Path.{sym}
 use lib.Seq.{length-take-le}
+use Rattle.rules.specs.Bytes.{cut}
 use Rattle.rules.specs.Sense.{told}
-use Rattle.sense.proofs.Telling.{take-within}
+use Rattle.sense.proofs.Telling.{cut-within}
 use borrow.Author.Needs.{needs}
 use Rattle.sense.proofs.tell.Statement.{statement}
 use Rattle.sense.proofs.tell.Tie as tie
@@ -31,14 +32,14 @@ unfolding told
 slice-aggregate-copy c = sym (length-take-le _ _ (search needs))
 
 copy-requires : tie.Need-copy-requires
-unfolding told
-copy-requires c κs = let pre = c .before .before .before .pre in take-within _ _ (told _ _ _) (pre .0) (pre .1)
+unfolding told cut
+copy-requires c κs = let pre = c .before .before .before .pre in rw (cut-within _ (told _ _ _) (pre .0)) (pre .1)
 
 same-length : tie.Need-same-length
 same-length c = search needs
 
 returns : tie.Need-returns
-unfolding told
+unfolding told cut
 returns c = c .before .before .copy .ensures
 
 pub tell-spec : {M : Type 1} → statement M

@@ -1,6 +1,5 @@
 -- `sense::tell_attention` meets its contract. Assumes nothing.
-use mathlib.Core.Path.{refl}
-use Rattle.rules.specs.Tables.{Attention, inHead, inElements}
+use Rattle.rules.specs.Tables.{NewAttention, inHead}
 use Rattle.sense.specs.Judged.{meaning}
 use Rattle.sense.proofs.Telling.{tells}
 use borrow.Author.Needs.{needs}
@@ -32,14 +31,14 @@ same-length-2 : tie.Need-same-length-2
 same-length-2 c = search needs
 
 returns : tie.Need-returns
-unfolding meaning inHead inElements
+unfolding meaning inHead
 returns c = λ elements rest.
     let cleared = c .before .before .before in
     let told = cleared .before .before .before .before in
     let codes = told .before .before in
     let began = codes .before .before .before .before .before .before in
     rw (← codes .before .before .attention .ensures, ← codes .attentionq .ensures)
-    (tells _ _ _ _ _ _ _ _ _ (Attention _ 0 0) (began .pre .1 .1 .0) (c .told .ensures) (told .tell .ensures) (cleared .attend .ensures) refl)
+    (tells _ _ _ _ _ _ _ _ _ (NewAttention _ 0 0) (began .pre .1 .1 .0) (c .told .ensures) (told .tell .ensures) (cleared .attend .ensures))
 
 pub tell-attention-spec : {M : Type 1} → statement M
 tell-attention-spec =

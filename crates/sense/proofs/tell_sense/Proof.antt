@@ -1,6 +1,5 @@
 -- `sense::tell_sense` meets its contract. Assumes nothing.
-use mathlib.Core.Path.{refl}
-use Rattle.rules.specs.Tables.{Sense, inHead, inElements}
+use Rattle.rules.specs.Tables.{NewSense, inHead}
 use Rattle.sense.specs.Judged.{meaning}
 use Rattle.sense.proofs.Telling.{tells}
 use borrow.Author.Needs.{needs}
@@ -35,14 +34,14 @@ same-length-2 : tie.Need-same-length-2
 same-length-2 c = search needs
 
 returns : tie.Need-returns
-unfolding meaning inHead inElements
+unfolding meaning inHead
 returns c = λ elements rest.
     let wiped = c .before .before .before in
     let told = wiped .before .before .before .before in
     let codes = told .before .before in
     let began = codes .before .before .before .before .before .before .before .before in
     rw (← codes .before .before .before .before .key .ensures, ← codes .before .before .asc .ensures, ← codes .ascq .ensures)
-    (tells _ _ _ _ _ _ _ _ _ (Sense _ 0 0 0) (began .pre .1 .1 .0) (c .told .ensures) (told .tell .ensures) (wiped .wipe .ensures) refl)
+    (tells _ _ _ _ _ _ _ _ _ (NewSense _ 0 0 0) (began .pre .1 .1 .0) (c .told .ensures) (told .tell .ensures) (wiped .wipe .ensures))
 
 pub tell-sense-spec : {M : Type 1} → statement M
 tell-sense-spec =

@@ -6,61 +6,52 @@ use borrow.Author.Needs.{needs}
 use Rattle.sound_head.proofs.sound.Statement.{statement}
 use Rattle.sound_head.proofs.sound.Tie as tie
 
-returns : tie.Need-returns
-unfolding headSound
-returns c = search tests depth 10
-
-ranges-requires : tie.Need-ranges-requires
-ranges-requires c κs = search needs
-
 counts-sound-requires : tie.Need-counts-sound-requires
 counts-sound-requires c κs = search needs
 
-returns-2 : tie.Need-returns-2
+returns : tie.Need-returns
 unfolding headSound
-returns-2 c = search (tests, counts-at) depth 10
+returns c = search (tests, counts-at) depth 10
 
 ranges-sound-requires : tie.Need-ranges-sound-requires
 ranges-sound-requires c κs = search needs
+
+returns-2 : tie.Need-returns-2
+unfolding headSound
+returns-2 c = search (tests, counts-at, ranges-at) depth 12 fits 20000
+
+unit-requires : tie.Need-unit-requires
+unit-requires c κs = search needs
 
 returns-3 : tie.Need-returns-3
 unfolding headSound
 returns-3 c = search (tests, counts-at, ranges-at) depth 12 fits 20000
 
-unit-requires : tie.Need-unit-requires
-unit-requires c κs = search needs
+senses-sound-requires : tie.Need-senses-sound-requires
+senses-sound-requires c κs = search needs
 
 returns-4 : tie.Need-returns-4
 unfolding headSound
 returns-4 c = search (tests, counts-at, ranges-at) depth 12 fits 20000
 
-senses-sound-requires : tie.Need-senses-sound-requires
-senses-sound-requires c κs = search needs
+attentions-sound-requires : tie.Need-attentions-sound-requires
+attentions-sound-requires c κs = search needs
 
 returns-5 : tie.Need-returns-5
 unfolding headSound
 returns-5 c = search (tests, counts-at, ranges-at) depth 12 fits 20000
 
-attentions-sound-requires : tie.Need-attentions-sound-requires
-attentions-sound-requires c κs = search needs
-
-returns-6 : tie.Need-returns-6
-unfolding headSound
-returns-6 c = search (tests, counts-at, ranges-at) depth 12 fits 20000
-
 pub sound-spec : {M : Type 1} → statement M
 sound-spec =
     tie.close
     (tie.spec
-    returns
-    ranges-requires
     counts-sound-requires
-    returns-2
+    returns
     ranges-sound-requires
-    returns-3
+    returns-2
     unit-requires
-    returns-4
+    returns-3
     senses-sound-requires
-    returns-5
+    returns-4
     attentions-sound-requires
-    returns-6)
+    returns-5)

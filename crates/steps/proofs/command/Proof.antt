@@ -1,35 +1,130 @@
 -- `steps::command` meets its contract. Assumes nothing.
-use mathlib.Core.Path.{refl}
+use mathlib.Core.Path.{sym, _∙_}
 use mathlib.Core.List.{[]}
-use Rattle.rules.specs.Bytes.{byte}
 use Rattle.rules.specs.Tables.{lent, bare}
-use Rattle.rules.proofs.Ladder.{eq-is, eq-not}
-use Rattle.rules.proofs.Untouched.{ready-fits, move-fits, exchange-fits, reserve-fits, prevent-fits}
-use Rattle.steps.specs.Steps.{commandBy}
-use Rattle.steps.proofs.Lengths.{some, six, twelve, last}
-use Rattle.steps.proofs.Ends.{silent-ends, chosen-ends}
+use Rattle.rules.specs.Command.{act}
+use Rattle.rules.proofs.Untouched.{good-fits, move-fits, exchange-fits, reserve-fits, release-fits, prevent-fits, refused-fits}
+use Rattle.rules.proofs.Rungs.{ends-as}
+use Rattle.order.specs.Ending.{reason}
+use Rattle.admission.specs.Admitting.{meaning}
+use Rattle.admission.proofs.Lengths.{sized}
+use Rattle.steps.proofs.Ends.{acts}
 use borrow.Author.Needs.{needs}
 use Rattle.steps.proofs.command.Statement.{statement}
 use Rattle.steps.proofs.command.Tie as tie
 
-shared-slice-read-op : tie.Need-shared-slice-read-op
-unfolding byte
-shared-slice-read-op c = search (needs, some)
+enum-told : tie.Need-enum-told
+enum-told c = search needs
 
-test-unit-ready-requires : tie.Need-test-unit-ready-requires
-unfolding byte
-test-unit-ready-requires c κs = (search needs, (search needs, search (needs, six 0x00 refl)))
+good-requires : tie.Need-good-requires
+good-requires c κs =
+    let chosen = c .before in
+    let began = chosen .before .before .before .before .before .before .before .before .before in
+    let s = began .pre in
+    (s .suited .ready-to-move .head-length, s .host-most)
+
+enum-told-2 : tie.Need-enum-told-2
+enum-told-2 c = search needs
+
+request-sense-requires : tie.Need-request-sense-requires
+unfolding meaning
+request-sense-requires c κs =
+    let chosen = c .before .before in
+    let began = chosen .before .before .before .before .before .before .before .before .before in
+    let s = began .pre in
+    (s .suited .ready-to-move .head-length, (s .host-most, sized _ _ _ (s .fitting) (chosen .enum-told2 .given .1)))
+
+enum-told-3 : tie.Need-enum-told-3
+enum-told-3 c = search needs
+
+reserve-requires : tie.Need-reserve-requires
+unfolding meaning
+reserve-requires c κs =
+    let chosen = c .before .before in
+    let began = chosen .before .before .before .before .before .before .before .before .before in
+    let s = began .pre in
+    record {
+      head-long = s .suited .ready-to-move .head-length;
+      runs-are = s .suited .ready-to-move .runs-are;
+      elements-long = s .suited .records;
+      host-known = s .host-most;
+      block-long = sized _ _ _ (s .fitting) (chosen .enum-told3 .given .1);
+    }
+
+enum-told-4 : tie.Need-enum-told-4
+enum-told-4 c = search needs
+
+release-requires : tie.Need-release-requires
+unfolding meaning
+release-requires c κs =
+    let chosen = c .before .before in
+    let began = chosen .before .before .before .before .before .before .before .before .before in
+    let s = began .pre in
+    (s .suited .ready-to-move .head-length, (s .host-most, sized _ _ _ (s .fitting) (chosen .enum-told4 .given .1)))
+
+enum-told-5 : tie.Need-enum-told-5
+enum-told-5 c = search needs
+
+prevent-allow-requires : tie.Need-prevent-allow-requires
+unfolding meaning
+prevent-allow-requires c κs =
+    let chosen = c .before in
+    let began = chosen .before .before .before .before .before .before .before .before .before in
+    let s = began .pre in
+    (s .suited .ready-to-move .head-length, (s .host-some, (s .host-most, sized _ _ _ (s .fitting) (chosen .enum-told5 .given .1))))
+
+enum-told-6 : tie.Need-enum-told-6
+enum-told-6 c = search needs
+
+move-medium-requires : tie.Need-move-medium-requires
+unfolding meaning
+move-medium-requires c κs =
+    let chosen = c .before .before in
+    let began = chosen .before .before .before .before .before .before .before .before .before in
+    let s = began .pre in
+    (s .suited .ready-to-move, (s .host-most, sized _ _ _ (s .fitting) (chosen .enum-told6 .given .1)))
+
+enum-told-7 : tie.Need-enum-told-7
+enum-told-7 c = search needs
+
+exchange-medium-requires : tie.Need-exchange-medium-requires
+unfolding meaning
+exchange-medium-requires c κs =
+    let chosen = c .before .before in
+    let began = chosen .before .before .before .before .before .before .before .before .before in
+    let s = began .pre in
+    (s .suited .ready-to-move, (s .host-most, sized _ _ _ (s .fitting) (chosen .enum-told7 .given .1)))
+
+enum-told-8 : tie.Need-enum-told-8
+enum-told-8 c = search needs
+
+read-element-status-requires : tie.Need-read-element-status-requires
+unfolding meaning
+read-element-status-requires c κs =
+    let chosen = c .before .before .before in
+    let began = chosen .before .before .before .before .before .before .before .before .before in
+    let s = began .pre in
+    s .suited .ready-to-list _ _ (s .host-most) (sized _ _ _ (s .fitting) (chosen .enum-told8 .given .1))
+
+enum-told-9 : tie.Need-enum-told-9
+enum-told-9 c = search needs
+
+refuse-requires : tie.Need-refuse-requires
+refuse-requires c κs =
+    let chosen = c .before in
+    let began = chosen .before .before .before .before .before .before .before .before .before in
+    let s = began .pre in
+    (s .suited .ready-to-move .head-length, s .host-most)
 
 same-length : tie.Need-same-length
 same-length c = search needs
 
 returns : tie.Need-returns
-unfolding commandBy byte
-returns c = λ rest e d. silent-ends _ _ _ _ _ (eq-is _ _ _ _ _ (c .before .before .before .before .if1 .taken) refl) (ready-fits (lent [] [] bare) _ _ _) (c .before .before .test-unit-ready .ensures _ _ _)
-
-reserve-requires : tie.Need-reserve-requires
-unfolding byte
-reserve-requires c κs = (search needs, (search needs, (search needs, search (needs, six 0x16 refl))))
+unfolding act meaning
+returns c =
+    let called = c .before .before in
+    let chosen = called .before .before in
+    λ rest lends. ends-as _ _ (called .good2 .ensures _ rest _) (sym (good-fits (lent [] [] bare) _ [] _ []) ∙ acts _ _ (chosen .enum-told .given .1) _ _ _ _ _)
 
 same-length-2 : tie.Need-same-length-2
 same-length-2 c = search needs
@@ -38,51 +133,47 @@ same-length-3 : tie.Need-same-length-3
 same-length-3 c = search needs
 
 returns-2 : tie.Need-returns-2
-unfolding commandBy byte
-returns-2 c = λ rest e d. silent-ends _ _ _ _ _ (eq-not _ _ _ _ _ (c .before .before .before .before .before .before .before .before .if1 .left) (eq-is _ _ _ _ _ (c .before .before .before .before .before .before .before .if2 .taken) refl)) (reserve-fits _ _ _ _ _) (c .before .before .before .before .reserve .ensures _ _)
-
-prevent-allow-requires : tie.Need-prevent-allow-requires
-unfolding byte
-prevent-allow-requires c κs = (search needs, (search needs, (search needs, search (needs, six 0x1E refl))))
+unfolding act meaning
+returns-2 c =
+    let called = c .before .before .before .before in
+    let chosen = called .before .before .before in
+    λ rest lends. ends-as _ _ (called .request-sense .ensures _ rest) (acts _ _ (chosen .enum-told2 .given .1) _ _ _ _ _)
 
 same-length-4 : tie.Need-same-length-4
 same-length-4 c = search needs
 
-returns-3 : tie.Need-returns-3
-unfolding commandBy byte
-returns-3 c = λ rest e d. silent-ends _ _ _ _ _ (eq-not _ _ _ _ _ (c .before .before .before .before .before .before .if1 .left) (eq-not _ _ _ _ _ (c .before .before .before .before .before .if2 .left) (eq-is _ _ _ _ _ (c .before .before .before .before .if3 .taken) refl))) (prevent-fits _ _ _ _) (c .before .before .prevent-allow .ensures _ _ _)
-
-move-medium-requires : tie.Need-move-medium-requires
-unfolding byte
-move-medium-requires c κs = (search needs, (search needs, search (needs, twelve 0xA5 refl)))
-
 same-length-5 : tie.Need-same-length-5
 same-length-5 c = search needs
+
+returns-3 : tie.Need-returns-3
+unfolding act meaning
+returns-3 c =
+    let called = c .before .before .before .before in
+    let chosen = called .before .before .before in
+    λ rest lends. ends-as _ _ (called .reserve .ensures rest _) (sym (reserve-fits _ _ _ _ _) ∙ acts _ _ (chosen .enum-told3 .given .1) _ _ _ _ _)
 
 same-length-6 : tie.Need-same-length-6
 same-length-6 c = search needs
 
-returns-4 : tie.Need-returns-4
-unfolding commandBy byte
-returns-4 c = λ rest e d. silent-ends _ _ _ _ _ (eq-not _ _ _ _ _ (c .before .before .before .before .before .before .before .before .before .before .if1 .left) (eq-not _ _ _ _ _ (c .before .before .before .before .before .before .before .before .before .if2 .left) (eq-not _ _ _ _ _ (c .before .before .before .before .before .before .before .before .if3 .left) (eq-is _ _ _ _ _ (c .before .before .before .before .before .before .before .if4 .taken) refl)))) (move-fits _ _ _ _) (c .before .before .before .before .move-medium .ensures _ _)
-
-exchange-medium-requires : tie.Need-exchange-medium-requires
-unfolding byte
-exchange-medium-requires c κs = (search needs, (search needs, search (needs, twelve 0xA6 refl)))
-
 same-length-7 : tie.Need-same-length-7
 same-length-7 c = search needs
+
+returns-4 : tie.Need-returns-4
+unfolding act meaning
+returns-4 c =
+    let called = c .before .before .before .before in
+    let chosen = called .before .before .before in
+    λ rest lends. ends-as _ _ (called .release .ensures rest _) (sym (release-fits _ _ _ _) ∙ acts _ _ (chosen .enum-told4 .given .1) _ _ _ _ _)
 
 same-length-8 : tie.Need-same-length-8
 same-length-8 c = search needs
 
 returns-5 : tie.Need-returns-5
-unfolding commandBy byte
-returns-5 c = λ rest e d. silent-ends _ _ _ _ _ (eq-not _ _ _ _ _ (c .before .before .before .before .before .before .before .before .before .before .before .if1 .left) (eq-not _ _ _ _ _ (c .before .before .before .before .before .before .before .before .before .before .if2 .left) (eq-not _ _ _ _ _ (c .before .before .before .before .before .before .before .before .before .if3 .left) (eq-not _ _ _ _ _ (c .before .before .before .before .before .before .before .before .if4 .left) (eq-is _ _ _ _ _ (c .before .before .before .before .before .before .before .if5 .taken) refl))))) (exchange-fits _ _ _ _) (c .before .before .before .before .exchange-medium .ensures _ _)
-
-read-element-status-requires : tie.Need-read-element-status-requires
-unfolding byte
-read-element-status-requires c κs = (search needs, (search needs, (search needs, search (needs, twelve 0xB8 refl, last))))
+unfolding act meaning
+returns-5 c =
+    let called = c .before .before in
+    let chosen = called .before .before in
+    λ rest lends. ends-as _ _ (called .prevent-allow .ensures _ rest _) (sym (prevent-fits _ _ _ _) ∙ acts _ _ (chosen .enum-told5 .given .1) _ _ _ _ _)
 
 same-length-9 : tie.Need-same-length-9
 same-length-9 c = search needs
@@ -90,38 +181,96 @@ same-length-9 c = search needs
 same-length-10 : tie.Need-same-length-10
 same-length-10 c = search needs
 
+returns-6 : tie.Need-returns-6
+unfolding act meaning
+returns-6 c =
+    let called = c .before .before .before .before in
+    let chosen = called .before .before .before in
+    λ rest lends. ends-as _ _ (called .move-medium .ensures rest _) (sym (move-fits _ _ _ _) ∙ acts _ _ (chosen .enum-told6 .given .1) _ _ _ _ _)
+
 same-length-11 : tie.Need-same-length-11
 same-length-11 c = search needs
 
-returns-6 : tie.Need-returns-6
-unfolding commandBy byte
-returns-6 c = λ rest e d. chosen-ends _ _ _ _ _ (eq-not _ _ _ _ _ (c .before .before .before .before .before .before .before .before .before .before .before .before .if1 .left) (eq-not _ _ _ _ _ (c .before .before .before .before .before .before .before .before .before .before .before .if2 .left) (eq-not _ _ _ _ _ (c .before .before .before .before .before .before .before .before .before .before .if3 .left) (eq-not _ _ _ _ _ (c .before .before .before .before .before .before .before .before .before .if4 .left) (eq-not _ _ _ _ _ (c .before .before .before .before .before .before .before .before .if5 .left) (refl)))))) (c .before .before .before .before .read-element-status .ensures rest e d)
+same-length-12 : tie.Need-same-length-12
+same-length-12 c = search needs
+
+returns-7 : tie.Need-returns-7
+unfolding act meaning
+returns-7 c =
+    let called = c .before .before .before .before in
+    let chosen = called .before .before .before in
+    λ rest lends. ends-as _ _ (called .exchange-medium .ensures rest _) (sym (exchange-fits _ _ _ _) ∙ acts _ _ (chosen .enum-told7 .given .1) _ _ _ _ _)
+
+same-length-13 : tie.Need-same-length-13
+same-length-13 c = search needs
+
+same-length-14 : tie.Need-same-length-14
+same-length-14 c = search needs
+
+same-length-15 : tie.Need-same-length-15
+same-length-15 c = search needs
+
+returns-8 : tie.Need-returns-8
+unfolding act meaning
+returns-8 c =
+    let called = c .before .before .before .before in
+    let chosen = called .before .before .before .before in
+    λ rest lends. ends-as _ _ (called .read-element-status .ensures rest lends) (acts _ _ (chosen .enum-told8 .given .1) _ _ _ _ _)
+
+same-length-16 : tie.Need-same-length-16
+same-length-16 c = search needs
+
+returns-9 : tie.Need-returns-9
+unfolding act meaning reason
+returns-9 c =
+    let called = c .before .before in
+    let chosen = called .before .before in
+    λ rest lends. ends-as _ _ (called .refuse .ensures _ rest _) (sym (refused-fits (lent [] [] bare) _ [] _ _) ∙ acts _ _ (chosen .enum-told9 .given .1) _ _ _ _ _)
 
 pub command-spec : {M : Type 1} → statement M
 command-spec =
     tie.close
     (tie.spec
-    shared-slice-read-op
-    test-unit-ready-requires
+    enum-told
+    good-requires
+    enum-told-2
+    request-sense-requires
+    enum-told-3
+    reserve-requires
+    enum-told-4
+    release-requires
+    enum-told-5
+    prevent-allow-requires
+    enum-told-6
+    move-medium-requires
+    enum-told-7
+    exchange-medium-requires
+    enum-told-8
+    read-element-status-requires
+    enum-told-9
+    refuse-requires
     same-length
     returns
-    reserve-requires
     same-length-2
     same-length-3
     returns-2
-    prevent-allow-requires
     same-length-4
-    returns-3
-    move-medium-requires
     same-length-5
+    returns-3
     same-length-6
-    returns-4
-    exchange-medium-requires
     same-length-7
+    returns-4
     same-length-8
     returns-5
-    read-element-status-requires
     same-length-9
     same-length-10
+    returns-6
     same-length-11
-    returns-6)
+    same-length-12
+    returns-7
+    same-length-13
+    same-length-14
+    same-length-15
+    returns-8
+    same-length-16
+    returns-9)

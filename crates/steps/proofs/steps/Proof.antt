@@ -1,46 +1,90 @@
 -- `steps::steps` meets its contract. Assumes nothing.
-use mathlib.Core.Path.{refl, sym, _∙_}
 use mathlib.Core.List.{[]}
-use Rattle.rules.specs.Bytes.{byte}
 use Rattle.rules.specs.Tables.{lent, bare}
-use Rattle.rules.proofs.Ladder.{eq-is, eq-not, yes, no}
-use Rattle.rules.proofs.Untouched.{check-fits}
-use Rattle.steps.specs.Steps.{stepsBy}
-use Rattle.steps.proofs.Paper.{steps-are}
-use Rattle.steps.proofs.Lengths.{some, six}
-use Rattle.steps.proofs.Ends.{silent-ends, chosen-ends}
+use Rattle.rules.proofs.Rungs.{ends-as}
+use Rattle.order.specs.Ending.{reason}
+use Rattle.admission.proofs.Admissions.{is-pending}
+use Rattle.steps.proofs.Ends.{pending-ends, held-ends, faulty-ends, open-ends}
 use borrow.Author.Needs.{needs}
 use Rattle.steps.proofs.steps.Statement.{statement}
 use Rattle.steps.proofs.steps.Tie as tie
 
-shared-slice-read-op : tie.Need-shared-slice-read-op
-unfolding byte
-shared-slice-read-op c = search (needs, some)
+judge-requires : tie.Need-judge-requires
+judge-requires c κs =
+    let began = c .before .before .before .before .before .before .before .before in
+    let s = began .pre in
+    (s .suited .ready-to-move .head-length, (s .host-most, s .fitting))
 
-request-sense-requires : tie.Need-request-sense-requires
-unfolding byte
-request-sense-requires c κs = (search needs, (search needs, search (needs, six 0x03 refl)))
+enum-told : tie.Need-enum-told
+enum-told c = search needs
+
+report-attention-requires : tie.Need-report-attention-requires
+report-attention-requires c κs =
+    let told = c .before in
+    let judged = told .before .before in
+    let began = judged .before .before .before .before .before .before .before .before .before in
+    let s = began .pre in
+    (s .suited .ready-to-move .head-length, (s .host-most, is-pending _ (lent _ [] bare) _ _ _ _ (judged .judge .ensures) (told .enum-told .given .1)))
+
+enum-told-2 : tie.Need-enum-told-2
+enum-told-2 c = search needs
+
+conflict-requires : tie.Need-conflict-requires
+conflict-requires c κs =
+    let judged = c .before .before .before in
+    let began = judged .before .before .before .before .before .before .before .before .before in
+    let s = began .pre in
+    (s .suited .ready-to-move .head-length, s .host-most)
+
+enum-known-at : tie.Need-enum-known-at
+enum-known-at c = search needs
+
+refuse-requires : tie.Need-refuse-requires
+refuse-requires c κs =
+    let judged = c .before .before .before .before in
+    let began = judged .before .before .before .before .before .before .before .before .before in
+    let s = began .pre in
+    (s .suited .ready-to-move .head-length, s .host-most)
+
+enum-told-3 : tie.Need-enum-told-3
+enum-told-3 c = search needs
+
+command-requires : tie.Need-command-requires
+command-requires c κs =
+    let judged = c .before .before .before .before .before in
+    let began = judged .before .before .before .before .before .before .before .before .before in
+    began .pre
 
 same-length : tie.Need-same-length
 same-length c = search needs
 
+returns : tie.Need-returns
+returns c =
+    let called = c .before .before in
+    let told = called .before .before in
+    let judged = told .before .before in
+    λ rest lends. ends-as _ _ (called .report-attention .ensures _ rest _ _) (pending-ends _ (lent _ _ rest) _ _ _ _ _ (judged .judge .ensures) (told .enum-told .given .1))
+
 same-length-2 : tie.Need-same-length-2
 same-length-2 c = search needs
 
-returns : tie.Need-returns
-unfolding stepsBy byte
-returns c = λ rest e d. chosen-ends _ _ _ _ _ (eq-is _ _ _ _ _ (c .before .before .before .before .before .before .before .if1 .taken) refl ∙ steps-are _ _ _ _) (c .before .before .before .before .request-sense .ensures _ _)
-
-is-known-requires : tie.Need-is-known-requires
-unfolding byte
-is-known-requires c κs = search needs
-
-guarded-requires : tie.Need-guarded-requires
-unfolding byte
-guarded-requires c κs = (search needs, (search needs, (search needs, (sym (c .before .before .before .before .is-known .ensures) ∙ c .before .before .before .if2 .taken, c .before .before .before .before .before .if1 .left))))
+returns-2 : tie.Need-returns-2
+returns-2 c =
+    let called = c .before .before in
+    let told = called .before .before in
+    let judged = told .before .before in
+    λ rest lends. ends-as _ _ (called .conflict .ensures _ rest _) (held-ends _ (lent _ _ rest) _ _ _ _ _ (judged .judge .ensures) (told .enum-told2 .given .1))
 
 same-length-3 : tie.Need-same-length-3
 same-length-3 c = search needs
+
+returns-3 : tie.Need-returns-3
+unfolding reason
+returns-3 c =
+    let called = c .before .before in
+    let told = called .before .before .before in
+    let judged = told .before .before in
+    λ rest lends. ends-as _ _ (called .refuse .ensures _ rest _) (faulty-ends _ (lent _ _ rest) _ _ _ _ _ (judged .judge .ensures) _ (told .at .given .1))
 
 same-length-4 : tie.Need-same-length-4
 same-length-4 c = search needs
@@ -48,36 +92,36 @@ same-length-4 c = search needs
 same-length-5 : tie.Need-same-length-5
 same-length-5 c = search needs
 
-returns-2 : tie.Need-returns-2
-unfolding stepsBy byte
-returns-2 c = λ rest e d. chosen-ends _ _ _ _ _ (eq-not _ _ _ _ _ (c .before .before .before .before .before .before .before .before .before .before .before .before .if1 .left) (yes _ _ _ _ _ (c .before .before .before .before .before .before .before .before .before .before .before .is-known .ensures) (c .before .before .before .before .before .before .before .before .before .before .if2 .taken) refl) ∙ steps-are _ _ _ _) (c .before .before .before .before .before .before .guarded .ensures rest e d)
-
-check-requires : tie.Need-check-requires
-unfolding byte
-check-requires c κs = (search needs, search needs)
-
 same-length-6 : tie.Need-same-length-6
 same-length-6 c = search needs
 
-returns-3 : tie.Need-returns-3
-unfolding stepsBy byte
-returns-3 c = λ rest e d. silent-ends _ _ _ _ _ (eq-not _ _ _ _ _ (c .before .before .before .before .before .before .if1 .left) (no _ _ _ _ _ (c .before .before .before .before .before .is-known .ensures) (c .before .before .before .before .if2 .left) refl) ∙ steps-are _ _ _ _) (check-fits (lent [] [] bare) _ [] _ _ _ _) (c .before .before .check .ensures _ _ _)
+returns-4 : tie.Need-returns-4
+returns-4 c =
+    let called = c .before .before .before .before .before .before in
+    let told = called .before .before .before .before in
+    let judged = told .before .before in
+    λ rest lends. ends-as _ _ (called .command .ensures rest lends) (open-ends _ (lent _ _ rest) _ _ _ _ _ (judged .judge .ensures) (told .enum-told3 .given .1))
 
 pub steps-spec : {M : Type 1} → statement M
 steps-spec =
     tie.close
     (tie.spec
-    shared-slice-read-op
-    request-sense-requires
+    judge-requires
+    enum-told
+    report-attention-requires
+    enum-told-2
+    conflict-requires
+    enum-known-at
+    refuse-requires
+    enum-told-3
+    command-requires
     same-length
-    same-length-2
     returns
-    is-known-requires
-    guarded-requires
+    same-length-2
+    returns-2
     same-length-3
+    returns-3
     same-length-4
     same-length-5
-    returns-2
-    check-requires
     same-length-6
-    returns-3)
+    returns-4)

@@ -22,6 +22,16 @@ pub fn named_entry(first: u8) -> Entry {
     at.map_or(Entry::Command, |at| Entry::ALL[at + 1])
 }
 
+/// The length of the first byte's group, 12 where any will do.
+pub fn block_length(first: u8) -> usize {
+    match first >> 5 {
+        0 => 6,
+        1 | 2 => 10,
+        4 => 16,
+        _ => 12,
+    }
+}
+
 /// Mostly the entry of the command's name, sometimes the one for any block, sometimes a wrong one.
 pub fn entry(random: &mut Random, block: &[u8]) -> Entry {
     match random.below(10) {

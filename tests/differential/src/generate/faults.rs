@@ -17,13 +17,13 @@ pub fn broken_scene(random: &mut Random, clause: Clause) -> Scene {
     }
 }
 
-/// Sound tables with two clauses broken, or one if the second did not fit.
+/// Sound tables with two clauses broken, or one if the second did not fit. The same one broken twice might be mended.
 pub fn doubly_broken_scene(random: &mut Random) -> Scene {
     let first = random.pick(&Clause::ALL);
     let second = random.pick(&Clause::ALL);
     let mut scene = broken_scene(random, first.max(second));
     let lengths_are_kept = scene.tables.elements.len() == 8 * scene.places.len();
-    if lengths_are_kept && scene.tables.head.len() == 58 {
+    if first != second && lengths_are_kept && scene.tables.head.len() == 58 {
         break_clause(random, &mut scene, first.min(second));
     }
     scene
@@ -161,8 +161,7 @@ fn range_overlap(random: &mut Random, scene: &mut Scene) -> Option<()> {
     let moved = *filled.iter().find(|&&at| at != stays)?;
     let (_, moved_count) = range(scene, moved);
     if random.percent(10) {
-        wrap_the_total(scene, (stays, count), (moved, moved_count));
-        return Some(());
+        return wrap_the_total(scene, (stays, count), (moved, moved_count));
     }
     let onto = match random.below(3) {
         0 => first + count - 1,
@@ -176,12 +175,18 @@ fn range_overlap(random: &mut Random, scene: &mut Scene) -> Option<()> {
     Some(())
 }
 
-/// Each range lies within 1 to 65,535, and the sum of the counts, cut to two bytes, is what it was.
-fn wrap_the_total(scene: &mut Scene, low: (usize, usize), high: (usize, usize)) {
+/// Each range lies within 1 to 65,535, and the sum of the counts, cut to two bytes, is what it was. None where it
+/// was done before.
+fn wrap_the_total(scene: &mut Scene, low: (usize, usize), high: (usize, usize)) -> Option<()> {
+    let half = 32_768;
+    if low.1 >= half || high.1 >= half {
+        return None;
+    }
     set_first(scene, low.0, 1);
-    set_count(scene, low.0, low.1 + 32_768);
-    set_first(scene, high.0, 65_536 - (high.1 + 32_768));
-    set_count(scene, high.0, high.1 + 32_768);
+    set_count(scene, low.0, low.1 + half);
+    set_first(scene, high.0, 65_536 - (high.1 + half));
+    set_count(scene, high.0, high.1 + half);
+    Some(())
 }
 
 fn any_of(random: &mut Random, places: &[usize]) -> Option<usize> {

@@ -1,9 +1,10 @@
 //! Sound tables of all shapes.
 
 use reference::library::Kind;
+use reference::TableBytes;
 
 use crate::random::Random;
-use crate::scene::{Place, Scene, TableBytes};
+use crate::scene::{Place, Scene};
 
 const LAST_ADDRESS: usize = 65_535;
 const MOST_TRANSPORTS: usize = 127;

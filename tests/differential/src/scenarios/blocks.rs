@@ -13,7 +13,7 @@ pub(super) fn early_steps(harness: &mut Harness, random: &mut Random, _: usize) 
         for case in 0..8 {
             let mut scene = sound::quiet_scene(random);
             let (mut block, parameters) = calls::block(random, &scene, first);
-            block.resize(block_length(first), 0);
+            block.resize(calls::block_length(first), 0);
             let host = random.byte_between(1, 8);
             if case & 1 != 0 {
                 let codes = random.pick(&[[0x28, 0x01], [0x29, 0x00]]);
@@ -29,16 +29,6 @@ pub(super) fn early_steps(harness: &mut Harness, random: &mut Random, _: usize) 
             harness.call(&mut scene.tables, &call);
             harness.call(&mut scene.tables, &call);
         }
-    }
-}
-
-/// The length of the first byte's group, 12 where any will do.
-fn block_length(first: u8) -> usize {
-    match first >> 5 {
-        0 => 6,
-        1 | 2 => 10,
-        4 => 16,
-        _ => 12,
     }
 }
 
@@ -89,7 +79,7 @@ pub(super) fn parameter_lengths(harness: &mut Harness, random: &mut Random, _: u
         for length in [0, 1, 5, 6, 7, 12, 255, 262] {
             let mut scene = sound::small_scene(random);
             let (mut block, _) = calls::block(random, &scene, first);
-            block.resize(block_length(first), 0);
+            block.resize(calls::block_length(first), 0);
             if first == 0x16 {
                 let said = random.pick(&[length, length, length + 1, length ^ 0x0100, 6]);
                 block[3..5].copy_from_slice(&(said as u16).to_be_bytes());

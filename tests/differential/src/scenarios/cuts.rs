@@ -68,6 +68,20 @@ fn buffer_about(random: &mut Random, returned: usize) -> Vec<u8> {
     random.bytes(length)
 }
 
+/// The largest answer there is, whole and short of one byte, with buffers about its length and beyond 65,536 bytes.
+pub(super) fn largest_listing(harness: &mut Harness, random: &mut Random, _: usize) {
+    let [transports, ports, drives] = [127, 200, 100].map(|most| random.between(1, most));
+    let counts = [transports, 512 - transports - ports - drives, ports, drives];
+    let scene = sound::quiet_scene_with(random, counts);
+    let whole = whole_length(harness, &scene, 0x10);
+    for allocation in [whole, whole + 1, whole - 1, 0xFF_FFFF] {
+        for buffer in [whole, whole + 1, whole - 1, 65_536, 65_536 + whole - 1] {
+            let call = listing_call(0x10, allocation, random.bytes(buffer));
+            harness.call(&mut scene.tables.clone(), &call);
+        }
+    }
+}
+
 /// REQUEST SENSE with and without sense and attention, for every length of interest.
 pub(super) fn sense_cuts(harness: &mut Harness, random: &mut Random, _: usize) {
     for allocation in (0..=20).chain([128, 254, 255]) {
@@ -83,15 +97,17 @@ pub(super) fn sense_cuts(harness: &mut Harness, random: &mut Random, _: usize) {
                 let codes = random.pick(&[[0x28, 0x01], [0x29, 0x00]]);
                 scene.host_record(host)[3..].copy_from_slice(&codes);
             }
-            let answer = buffer_about(random, usize::from(allocation).min(18));
-            let call = Call::Command {
-                entry: calls::named_entry(0x03),
-                host: host.into(),
-                block: vec![0x03, 0, 0, 0, allocation, 0],
-                parameters: Vec::new(),
-                answer,
-            };
-            harness.call(&mut scene.tables, &call);
+            let returned = usize::from(allocation).min(18);
+            for answer in [buffer_about(random, returned), random.bytes(returned)] {
+                let call = Call::Command {
+                    entry: calls::named_entry(0x03),
+                    host: host.into(),
+                    block: vec![0x03, 0, 0, 0, allocation, 0],
+                    parameters: Vec::new(),
+                    answer,
+                };
+                harness.call(&mut scene.tables.clone(), &call);
+            }
         }
     }
 }

@@ -1,5 +1,7 @@
 //! Calls on sound tables, many of them carried on from call to call.
 
+use reference::library::Kind;
+
 use crate::call::Call;
 use crate::generate::{calls, sound};
 use crate::harness::Harness;
@@ -100,6 +102,55 @@ pub(super) fn moves(harness: &mut Harness, random: &mut Random, _: usize) {
             let host = random.between(1, 3) as u32;
             let call = calls::command(random, host, block, Vec::new());
             harness.call(&mut scene.tables, &call);
+        }
+    }
+}
+
+/// Moves and exchanges by the transports at both ends of 127, and by the addresses beside them.
+pub(super) fn most_transports(harness: &mut Harness, random: &mut Random, _: usize) {
+    let (scene, full, empty) = scene_with_most_transports(random);
+    let transports = scene.places_where(|kind, _| kind == Kind::Transport);
+    let address = |place: usize| scene.places[place].address;
+    let (first, last) = (address(transports[0]), address(transports[126]));
+    for transport in [
+        0,
+        first - 1,
+        first,
+        first + 1,
+        last - 1,
+        last,
+        last.wrapping_add(1),
+    ] {
+        for (byte_0, second) in [(0xA5, 0), (0xA6, address(empty))] {
+            let to = match byte_0 {
+                0xA5 => address(empty),
+                _ => address(full[1]),
+            };
+            let mut block = vec![byte_0, 0];
+            for field in [transport, address(full[0]), to, second] {
+                block.extend(field.to_be_bytes());
+            }
+            block.extend([0, 0]);
+            let call = calls::command(random, 1, block, Vec::new());
+            harness.call(&mut scene.tables.clone(), &call);
+            let mut held = scene.clone();
+            held.hold(random.pick_with_ends(&transports), 2, 0);
+            harness.call(&mut held.tables, &call);
+        }
+    }
+}
+
+/// Two full places and an empty one beside 127 transports.
+fn scene_with_most_transports(random: &mut Random) -> (Scene, [usize; 2], usize) {
+    loop {
+        let others = [3, 2, 1].map(|least| least + random.below(4));
+        let scene = sound::quiet_scene_with(random, [127, others[0], others[1], others[2]]);
+        let is_place = |kind: Kind| kind != Kind::Transport;
+        let full = scene.places_where(|kind, volume| is_place(kind) && volume != 0);
+        let empty = scene.places_where(|kind, volume| is_place(kind) && volume == 0);
+        if let ([one, two, ..], [place, ..]) = (&full[..], &empty[..]) {
+            let (full, empty) = ([*one, *two], *place);
+            return (scene, full, empty);
         }
     }
 }

@@ -6,6 +6,10 @@ mod events;
 mod libraries;
 mod reserving;
 mod unsound;
+mod wide;
+
+use std::any::Any;
+use std::panic::{catch_unwind, AssertUnwindSafe};
 
 use reference::Implementation;
 
@@ -14,29 +18,38 @@ use crate::random::Random;
 
 type Scenario = fn(&mut Harness, &mut Random, usize);
 
-const SCENARIOS: [Scenario; 19] = [
+macro_rules! named {
+    ($($family:ident::$name:ident),* $(,)?) => { [$((stringify!($name), $family::$name as Scenario)),*] };
+}
+
+const SCENARIOS: [(&str, Scenario); 23] = named![
     libraries::small_library,
     libraries::plausible_calls,
     libraries::history,
     libraries::moves,
+    libraries::most_transports,
     blocks::early_steps,
     unsound::each_clause_broken,
     unsound::pairs_of_clauses_broken,
     unsound::one_bit_of_the_tables_flipped,
     unsound::ragged_tables,
+    wide::tables,
     blocks::bits_of_blocks_flipped,
     blocks::block_lengths,
     blocks::parameter_lengths,
+    wide::requests,
     reserving::reserve_lists,
     reserving::reserve_conflicts,
     cuts::listing_cuts,
+    cuts::largest_listing,
     cuts::sense_cuts,
     blocks::hosts,
     events::events_at_the_edges,
     events::preventers,
 ];
 
-/// Compares the subjects with what is expected. The same seed gives the same calls.
+/// Compares the subjects with what is expected. The same seed gives the same calls. A scenario that panics is
+/// noted, and the run goes on with the next one.
 pub fn run(
     expected: &dyn Implementation,
     subjects: &[Subject],
@@ -46,14 +59,25 @@ pub fn run(
     let mut harness = Harness::new(expected, subjects, limits);
     let mut random = Random::new(seed);
     for round in 0.. {
-        for scenario in SCENARIOS {
-            scenario(&mut harness, &mut random, round);
+        for (name, scenario) in SCENARIOS {
+            // Each scenario makes its own tables, so nothing half done is used again.
+            let went = AssertUnwindSafe(|| scenario(&mut harness, &mut random, round));
+            if let Err(panic) = catch_unwind(went) {
+                harness.break_off(name, words(&*panic));
+            }
             if harness.is_done() {
                 return harness.into_report();
             }
         }
     }
-    unreachable!("every round makes calls")
+    unreachable!("every round makes calls or breaks off")
+}
+
+/// What a panic said.
+fn words(panic: &dyn Any) -> &str {
+    let literal = panic.downcast_ref::<&str>().copied();
+    let formatted = panic.downcast_ref::<String>().map(String::as_str);
+    literal.or(formatted).unwrap_or("no reason was given")
 }
 
 fn pairs<A: Copy, B: Copy>(some: &[A], others: &[B]) -> Vec<(A, B)> {

@@ -6,7 +6,6 @@ use crate::call::Call;
 use crate::generate::{calls, faults, sound};
 use crate::harness::Harness;
 use crate::random::Random;
-use crate::scene::TableBytes;
 
 pub(super) fn each_clause_broken(harness: &mut Harness, random: &mut Random, round: usize) {
     for (at, clause) in Clause::ALL.into_iter().enumerate() {
@@ -50,19 +49,15 @@ pub(super) fn one_bit_of_the_tables_flipped(harness: &mut Harness, random: &mut 
 pub(super) fn ragged_tables(harness: &mut Harness, random: &mut Random, _: usize) {
     let scene = sound::small_scene(random);
     for _ in 0..30 {
-        let [head, elements, tags, blank] = [58, 64, 72, 36].map(|right| {
-            let length = random.pick(&[right, right, 0, right - 1, right + 1]);
-            match random.percent(50) {
+        let mut tables = scene.tables.clone();
+        for table in tables.each() {
+            let right = table.len();
+            let length = random.pick(&[right, right, 0, right.saturating_sub(1), right + 1]);
+            *table = match random.percent(50) {
                 true => random.bytes(length),
                 false => vec![0; length],
-            }
-        });
-        let mut tables = TableBytes {
-            head,
-            elements,
-            tags,
-            blank,
-        };
+            };
+        }
         let call = calls::plausible(random, &scene);
         harness.call(&mut tables, &call);
     }

@@ -1,53 +1,88 @@
--- `sound::element::run_sound`: at the loop's head the first i places are passed. Assumes nothing.
-use Prim.Native.Nat.{_+_, _-_}
+-- `sound::element::run_sound`: at the loop's head the places before p are passed, and their volumes marked. Assumes nothing.
+use Prim.Native.Nat.{_-_}
+use mathlib.Core.Logic.{⊎-elim}
+use native.Mathlib.Omega.{arith}
 use borrow.Author.Needs.{needs}
-use Rattle.tables.specs.Ranges.{rosterOf}
-use Rattle.sound.specs.Checks.{stockAt, stocksIn}
-use Rattle.sound_head.proofs.Loops.{Held, held-none, held-all, turn-on, turn-stops}
+use Rattle.tables.specs.Ranges.{laid}
+use Rattle.sound.proofs.Pass.{Passing, pass-begins, pass-unfit, pass-twice, pass-new, pass-empty, pass-all, volume-small, never}
 use Rattle.sound.proofs.element.run_sound.Statement.{statement}
 use Rattle.sound.proofs.element.run_sound.Tie as tie
 
 abbrev Inv-loop : tie.InvT-loop
-Inv-loop rs top kind from n elements i₀ i = Held (λ j. stockAt top (rosterOf rs) elements kind (from + j)) n i
+Inv-loop runs unit top kind first end elements seen₀ last p₀ seen p = Passing unit top (laid runs) elements kind first end seen p
 
 abbrev μ-loop : tie.MeasureT-loop
-μ-loop rs top kind from n elements i₀ i = n - i
+μ-loop runs unit top kind first end elements seen₀ last p₀ seen p = end - p
 
 loop-holds : tie.Need-loop-holds Inv-loop μ-loop
-loop-holds c = held-none _ _
+loop-holds c = pass-begins _ _ _ _ _ _ _ _ (c .before .before .pre .1)
+
+last-of-requires : tie.Need-last-of-requires Inv-loop μ-loop
+last-of-requires c κs = search needs
+
+fits-requires : tie.Need-fits-requires Inv-loop μ-loop
+fits-requires c κs =
+    let start = c .before .before .before .before in
+    (start .pre .0, omega (arith, start .pre .1 .there, c .loop-test .taken))
+
+returns : tie.Need-returns Inv-loop μ-loop
+returns c =
+    let fit = c .before in
+    let turn = fit .before .before in
+    (pass-unfit _ _ _ _ _ _ _ _ (turn .before .before .before .pre .1) _ _ (turn .loop .inv) (fit .before .loop-test .taken) _ (turn .before .last-of .ensures) _ (fit .fits2 .ensures) (c .if1 .taken), never)
+
+volume-requires : tie.Need-volume-requires Inv-loop μ-loop
+volume-requires c κs =
+    let test = c .before .before in
+    omega (arith, test .before .before .before .before .pre .1 .there, test .loop-test .taken)
+
+cast-v : tie.Need-cast-v Inv-loop μ-loop
+cast-v c = search needs
+
+element-copy-out-if3 : tie.Need-element-copy-out-if3 Inv-loop μ-loop
+element-copy-out-if3 c =
+    let read = c .before in
+    let fit = read .before .before in
+    let turn = fit .before .before in
+    let start = turn .before .before .before in
+    omega (arith, volume-small _ _ _ _ _ _ _ _ (start .pre .1) _ _ (turn .loop .inv) (fit .before .loop-test .taken) _ (turn .before .last-of .ensures) _ (fit .fits2 .ensures) (read .before .if1 .left) _ (read .volume .ensures))
+
+returns-2 : tie.Need-returns-2 Inv-loop μ-loop
+returns-2 c =
+    let some = c .before .before in
+    let read = some .before in
+    let fit = read .before .before in
+    let turn = fit .before .before in
+    let start = turn .before .before .before in
+    (pass-twice _ _ _ _ _ _ _ _ (start .pre .1) _ _ (turn .loop .inv) (fit .before .loop-test .taken) _ (turn .before .last-of .ensures) _ (fit .fits2 .ensures) (read .before .if1 .left) _ (read .volume .ensures) (some .if2 .taken) (c .if3 .taken), never)
+
+element-write-seen : tie.Need-element-write-seen Inv-loop μ-loop
+element-write-seen c =
+    let read = c .before .before .before in
+    let fit = read .before .before in
+    let turn = fit .before .before in
+    let start = turn .before .before .before in
+    omega (arith, volume-small _ _ _ _ _ _ _ _ (start .pre .1) _ _ (turn .loop .inv) (fit .before .loop-test .taken) _ (turn .before .last-of .ensures) _ (fit .fits2 .ensures) (read .before .if1 .left) _ (read .volume .ensures))
 
 add-p : tie.Need-add-p Inv-loop μ-loop
 add-p c = search needs
-
-volume-requires : tie.Need-volume-requires Inv-loop μ-loop
-volume-requires c κs = search needs
-
-source-requires : tie.Need-source-requires Inv-loop μ-loop
-source-requires c κs = search needs
-
-mark-requires : tie.Need-mark-requires Inv-loop μ-loop
-mark-requires c κs = search needs
-
-stock-sound-requires : tie.Need-stock-sound-requires Inv-loop μ-loop
-stock-sound-requires c κs = search needs
-
-returns : tie.Need-returns Inv-loop μ-loop
-unfolding stockAt stocksIn
-returns c = turn-stops _ _ _ (c .before .before .before .before .before .before .loop .inv) (c .before .before .before .before .before .loop-test .taken) _ (rw (c .before .before .before .before .volume .ensures, c .before .before .before .source .ensures, c .before .before .mark .ensures) at (c .before .stock-sound .ensures)) (c .if1 .taken)
-
-add-i : tie.Need-add-i Inv-loop μ-loop
-add-i c = search needs
 
 loop-less : tie.Need-loop-less Inv-loop μ-loop
 loop-less c = search needs
 
 loop-again : tie.Need-loop-again Inv-loop μ-loop
-unfolding stockAt
-loop-again c = turn-on _ _ _ (c .before .before .before .before .before .before .loop .inv) (c .before .before .before .before .before .loop-test .taken) _ (rw (c .before .before .before .before .volume .ensures, c .before .before .before .source .ensures, c .before .before .mark .ensures) at (c .before .stock-sound .ensures)) (c .if1 .left)
+loop-again c =
+    let read = c .before in
+    let fit = read .before .before in
+    let turn = fit .before .before in
+    let start = turn .before .before .before in
+    ⊎-elim
+    (λ w. rw (w .3) (pass-new _ _ _ _ _ _ _ _ (start .pre .1) _ _ (turn .loop .inv) (fit .before .loop-test .taken) _ (turn .before .last-of .ensures) _ (fit .fits2 .ensures) (read .before .if1 .left) _ (read .volume .ensures) (w .0 .taken) (w .2 .left)))
+    (λ w. rw (w .1) (pass-empty _ _ _ _ _ _ _ _ (start .pre .1) _ _ (turn .loop .inv) (fit .before .loop-test .taken) _ (turn .before .last-of .ensures) _ (fit .fits2 .ensures) (read .before .if1 .left) _ (read .volume .ensures) (w .0 .left)))
+    (c .if2 .came)
 
-returns-2 : tie.Need-returns-2 Inv-loop μ-loop
-unfolding stocksIn
-returns-2 c = held-all _ _ _ (c .before .loop .inv) (c .loop-test .left)
+returns-3 : tie.Need-returns-3 Inv-loop μ-loop
+returns-3 c = let all = pass-all _ _ _ _ _ _ _ _ (c .before .before .before .before .pre .1) _ _ (c .before .loop .inv) (c .loop-test .left) in (all .0, λ e. all .1)
 
 pub run-sound-spec : {M : Type 1} → statement M
 run-sound-spec =
@@ -55,14 +90,16 @@ run-sound-spec =
     (tie.spec
     Inv-loop
     μ-loop
+    last-of-requires
     loop-holds
-    add-p
-    volume-requires
-    source-requires
-    mark-requires
-    stock-sound-requires
+    fits-requires
     returns
-    add-i
+    volume-requires
+    cast-v
+    element-copy-out-if3
+    returns-2
+    element-write-seen
+    add-p
     loop-less
     loop-again
-    returns-2)
+    returns-3)

@@ -5,11 +5,8 @@ use borrow.Author.Needs.{needs}
 use Rattle.tables.proofs.head.attend.Statement.{statement}
 use Rattle.tables.proofs.head.attend.Tie as tie
 
-host-at-requires : tie.Need-host-at-requires
-host-at-requires c κs = search needs
-
-add-put-two : tie.Need-add-put-two
-add-put-two c = search needs
+attention-at-requires : tie.Need-attention-at-requires
+attention-at-requires c κs = search needs
 
 put-two-requires : tie.Need-put-two-requires
 put-two-requires c κs = search needs
@@ -19,8 +16,8 @@ same-length c = search needs
 
 returns : tie.Need-returns
 unfolding attended
-returns c = c .before .before .put-two .ensures ∙ rw (c .before .before .before .host-at .ensures)
+returns c = c .before .before .put-two .ensures ∙ rw (c .before .before .before .attention-at .ensures)
 
 pub attend-spec : {M : Type 1} → statement M
 attend-spec =
-    tie.close (tie.spec host-at-requires add-put-two put-two-requires same-length returns)
+    tie.close (tie.spec attention-at-requires put-two-requires same-length returns)

@@ -1,0 +1,97 @@
+-- What the answer of steps 2 to 4 tells a caller: the rules' steps, case by case. Assumes nothing.
+use Prim.Native.Nat.{ℕ}
+use native.Mathlib.Omega.{arith}
+use mathlib.Core.Path.{_≡_, refl, sym, _∙_}
+use mathlib.Core.Logic.{_≢_}
+use mathlib.Core.Bool.{Bool, true, false, not}
+use mathlib.Core.List.{List}
+use lib.Dec.{eqb}
+use Rattle.rules.specs.Choice.{when, differ}
+use Rattle.rules.specs.Tables.{Tables, attention, unit}
+use Rattle.rules.specs.Operation.{Operation, TestUnitReady, RequestSense, Reserve, Release, PreventAllow, MoveMedium, ExchangeMedium, ReadElementStatus, Unknown}
+use Rattle.rules.specs.Order.{Verdict, other, conflict, refused, InvalidField, afterAttention, afterUnit, guarded}
+use Rattle.rules.specs.Form.{fault, formed}
+use Rattle.rules.specs.Command.{admitted}
+use Rattle.rules.proofs.Ladder.{differ-true}
+use Rattle.admission.specs.declared.Operation.{Operation as Declared}
+use Rattle.admission.specs.declared.Admission.{Admission}
+use Rattle.admission.specs.declared.Admission.the-variants.{Pending, Held, Faulty, Open}
+use Rattle.admission.specs.Admitting.{meaning, meetsAttention, meetsUnit, pending, held, admission, onAdmission}
+
+module _ (t : Tables) (h : ℕ) (v : Verdict) where
+  -- steps 2 and 3 by the tests of the code
+  attention-by : afterAttention t h v ≡ when (differ (attention (t .head) h) 0) (afterAttention t h v) v
+  unfolding afterAttention differ when
+  attention-by = go (eqb (attention (t .head) h) 0) _
+    where
+      go : (b : Bool) (told : Verdict) → when b v told ≡ when (not b) (when b v told) v
+      go true told = refl
+      go false told = refl
+
+  guarded-by : guarded t h v ≡ when (differ (attention (t .head) h) 0) (afterAttention t h v) (when (other h (unit (t .head))) (conflict h) v)
+  unfolding guarded afterUnit afterAttention differ when
+  guarded-by = go (eqb (attention (t .head) h) 0) _ _
+    where
+      go : (b : Bool) (later told : Verdict) → when b later told ≡ when (not b) (when b v told) later
+      go true later told = refl
+      go false later told = refl
+
+  admitted-by : (op : Operation) → admitted op t h v ≡ when (pending op (t .head) h) (afterAttention t h v) (when (held op (t .head) h) (conflict h) v)
+  unfolding admitted pending held meetsAttention meetsUnit when
+  admitted-by TestUnitReady = guarded-by
+  admitted-by RequestSense = refl
+  admitted-by Reserve = guarded-by
+  admitted-by Release = attention-by
+  admitted-by PreventAllow = guarded-by
+  admitted-by MoveMedium = guarded-by
+  admitted-by ExchangeMedium = guarded-by
+  admitted-by ReadElementStatus = guarded-by
+  admitted-by Unknown = refl
+
+-- attention is looked at where it is met
+waits : (op : Operation) (head : List ℕ) (h : ℕ) → pending op head h ≡ true → attention head h ≢ 0
+unfolding pending when
+waits op head h = go (meetsAttention op)
+  where
+    go : (b : Bool) → when b (differ (attention head h) 0) false ≡ true → attention head h ≢ 0
+    go true e = differ-true _ _ e
+    go false e = λ z. let y : _≡_ {A = ℕ} 0 1 = cc in omega arith
+
+-- nothing that follows is looked at where attention is told
+alike : (t : Tables) (h : ℕ) (v w : Verdict) → attention (t .head) h ≢ 0 → afterAttention t h v ≡ afterAttention t h w
+unfolding afterAttention when
+alike t h v w n = rw (borrow.Author.Tests.ne-eqb (attention (t .head) h) 0 n) refl
+
+-- ---- for callers: the answer g
+
+module _ (op : Declared) (t : Tables) (h : ℕ) (block list : List ℕ) (g : Admission) (is : g ≡ admission op (t .head) h block list) where
+  pub is-pending : g ≡ Pending → attention (t .head) h ≢ 0
+  unfolding admission when
+  is-pending p = go (pending (meaning op) (t .head) h) refl
+    where
+      at : ℕ
+      at = fault (meaning op) block list
+
+      never : (b c : Bool) (at : ℕ) → Pending ≡ when b Held (when c Open (Faulty at)) → ⊥
+      never true c at q = let y : _≡_ {A = ℕ} 0 1 = cc in omega arith
+      never false true at q = let y : _≡_ {A = ℕ} 0 1 = cc in omega arith
+      never false false at q = let y : _≡_ {A = ℕ} 0 1 = cc in omega arith
+
+      go : (b : Bool) → pending (meaning op) (t .head) h ≡ b → attention (t .head) h ≢ 0
+      go true e = waits (meaning op) (t .head) h e
+      go false e = λ _. never (held (meaning op) (t .head) h) (eqb at 0) at (sym p ∙ is ∙ rw e refl)
+
+  pub admission-is : (rest : Verdict) → admitted (meaning op) t h (formed (meaning op) h block list rest) ≡ onAdmission t h g rest
+  unfolding admission onAdmission formed when
+  admission-is rest = admitted-by t h _ (meaning op) ∙ rw is (go (pending (meaning op) (t .head) h) refl (held (meaning op) (t .head) h) (eqb (fault (meaning op) block list) 0))
+    where
+      at : ℕ
+      at = fault (meaning op) block list
+
+      go : (b : Bool) → pending (meaning op) (t .head) h ≡ b → (c d : Bool)
+          → when b (afterAttention t h (when d rest (refused h (InvalidField at)))) (when c (conflict h) (when d rest (refused h (InvalidField at))))
+          ≡ onAdmission t h (when b Pending (when c Held (when d Open (Faulty at)))) rest
+      go true e c d = alike t h _ rest (waits (meaning op) (t .head) h e)
+      go false e true d = refl
+      go false e false true = refl
+      go false e false false = refl

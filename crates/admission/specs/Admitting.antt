@@ -1,0 +1,75 @@
+-- The code's operations as the rules name them, and steps 2 to 4 as the code judges them. Assumes nothing.
+use Prim.Native.Nat.{ℕ}
+use mathlib.Core.Path.{_≡_}
+use mathlib.Core.List.{List}
+use mathlib.Core.Bool.{Bool, true, false}
+use lib.Dec.{eqb}
+use Rattle.rules.specs.Choice.{when, differ}
+use Rattle.rules.specs.Tables.{Tables, unit, attention}
+use Rattle.rules.specs.Operation.{Operation, TestUnitReady, RequestSense, Reserve, Release, PreventAllow, MoveMedium, ExchangeMedium, ReadElementStatus, Unknown, operation}
+use Rattle.rules.specs.Order.{Verdict, InvalidField, other, afterAttention, conflict, refused}
+use Rattle.rules.specs.Form.{fault}
+use Rattle.rules.specs.Command.{blockFits}
+use Rattle.admission.specs.declared.Operation.{Operation as Declared}
+use Rattle.admission.specs.declared.Operation.the-variants as declared
+use Rattle.admission.specs.declared.Admission.{Admission}
+use Rattle.admission.specs.declared.Admission.the-variants.{Pending, Held, Faulty, Open}
+
+unfoldable pub meaning : Declared → Operation
+meaning declared.TestUnitReady = TestUnitReady
+meaning declared.RequestSense = RequestSense
+meaning declared.Reserve = Reserve
+meaning declared.Release = Release
+meaning declared.PreventAllow = PreventAllow
+meaning declared.MoveMedium = MoveMedium
+meaning declared.ExchangeMedium = ExchangeMedium
+meaning declared.ReadElementStatus = ReadElementStatus
+meaning declared.Unknown = Unknown
+
+-- the operation was decoded from the block, which has its length
+pub record Fitting (op : Declared) (block : List ℕ) : Type 0 where
+  pub decoded : meaning op ≡ operation block
+  pub fits : blockFits block ≡ true
+
+-- "2. Attention pending and not REQUEST SENSE"; step 1 comes before it
+unfoldable pub meetsAttention : Operation → Bool
+meetsAttention TestUnitReady = true
+meetsAttention RequestSense = false
+meetsAttention Reserve = true
+meetsAttention Release = true
+meetsAttention PreventAllow = true
+meetsAttention MoveMedium = true
+meetsAttention ExchangeMedium = true
+meetsAttention ReadElementStatus = true
+meetsAttention Unknown = false
+
+-- "3. .. never for RELEASE, REQUEST SENSE"; step 1 comes before it
+unfoldable pub meetsUnit : Operation → Bool
+meetsUnit TestUnitReady = true
+meetsUnit RequestSense = false
+meetsUnit Reserve = true
+meetsUnit Release = false
+meetsUnit PreventAllow = true
+meetsUnit MoveMedium = true
+meetsUnit ExchangeMedium = true
+meetsUnit ReadElementStatus = true
+meetsUnit Unknown = false
+
+unfoldable pub pending : Operation → List ℕ → ℕ → Bool
+pending op head h = when (meetsAttention op) (differ (attention head h) 0) false
+
+unfoldable pub held : Operation → List ℕ → ℕ → Bool
+held op head h = when (meetsUnit op) (other h (unit head)) false
+
+unfoldable pub admission : Declared → List ℕ → ℕ → List ℕ → List ℕ → Admission
+admission op head h block list =
+    when (pending (meaning op) head h) Pending
+    (when (held (meaning op) head h) Held
+    (when (eqb (fault (meaning op) block list) 0) Open (Faulty (fault (meaning op) block list))))
+
+-- what a command of host h comes to by each answer, where rest is what follows step 4
+unfoldable pub onAdmission : Tables → ℕ → Admission → Verdict → Verdict
+onAdmission t h Pending rest = afterAttention t h rest
+onAdmission t h Held rest = conflict h
+onAdmission t h (Faulty at) rest = refused h (InvalidField at)
+onAdmission t h Open rest = rest

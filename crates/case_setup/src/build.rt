@@ -1,0 +1,167 @@
+// The tables of the paper, the ranges, the labels and the lengths.
+use super::table;
+use super::table::Length;
+use case_rooms::Effect;
+use case_rooms::State;
+use case_rooms::parts;
+use case_script::Line;
+use case_script::class;
+use case_script::fault;
+use case_script::word;
+ghost use Prim.Native.Nat.{_≤_};
+
+// "the record of a volume in the tag table"
+fn label(state: State, volume: u32, room: &mut [u8], bytes: &[u8]) -> Effect {
+    if bytes.len() != layout::TAG_SIZE {
+        return case_rooms::refuse(state, fault::WRONG_BYTE_COUNT);
+    }
+    if volume == 0 {
+        return case_rooms::refuse(state, fault::OUTSIDE);
+    }
+    let before = (volume - 1) as usize;
+    if case_rooms::length_of(state, parts::TAGS) / layout::TAG_SIZE <= before {
+        return case_rooms::refuse(state, fault::OUTSIDE);
+    }
+    case_rooms::write(room, parts::TAGS_AT + layout::TAG_SIZE * before, bytes);
+    case_rooms::done(state)
+}
+
+// How long the tables are that have n elements and v volumes; what is not named here is empty.
+fn sized(state: State, n: usize, v: usize) -> Effect
+    requires { ⌜ (n ≤ 7) × (v ≤ 3) ⌝ }
+{
+    let mut s = state;
+    s.sizes = [0; parts::TABLES];
+    s = case_rooms::resized(s, parts::HEAD, layout::HEAD_SIZE);
+    s = case_rooms::resized(s, parts::ELEMENTS, layout::ELEMENT_SIZE * n);
+    s = case_rooms::resized(s, parts::TAGS, layout::TAG_SIZE * v);
+    case_rooms::done(case_rooms::resized(s, parts::BLANK, layout::TAG_SIZE))
+}
+
+// "a head of 58 zeros, .. a blank label of 36 blanks"
+fn empty(room: &mut [u8]) {
+    case_rooms::paint(room, parts::HEAD_AT, layout::HEAD_SIZE, 0);
+    case_rooms::paint(room, parts::BLANK_AT, layout::TAG_SIZE, b' ');
+}
+
+// A volume below 256 in the element at a place.
+fn stock(room: &mut [u8], place: usize, volume: u8)
+    requires { ⌜ place ≤ 7 ⌝ }
+{
+    let at = parts::ELEMENTS_AT + layout::ELEMENT_SIZE * place;
+    case_rooms::paint(room, at + 1, 1, volume);
+}
+
+// "Transport 0001h, import/export 0010h, drive 0100h, storage 1000h to 1003h. Volume 1 at 1000h, 2 at 1002h": the elements lie by address,
+// so that these two stand at places 3 and 5.
+fn small_elements(room: &mut [u8]) {
+    let ranges = [0u8, 1, 0, 1, 0x10, 0, 0, 4, 0, 0x10, 0, 1, 1, 0, 0, 1];
+    case_rooms::write(room, parts::HEAD_AT, &ranges);
+    case_rooms::paint(room, parts::ELEMENTS_AT, layout::ELEMENT_SIZE * 7, 0);
+    stock(room, 3, 1);
+    stock(room, 5, 2);
+}
+
+// A label of one letter.
+fn letters(room: &mut [u8], before: usize, letter: u8)
+    requires { ⌜ before ≤ 3 ⌝ }
+{
+    let at = parts::TAGS_AT + layout::TAG_SIZE * before;
+    case_rooms::paint(room, at, layout::TAG_SIZE, letter);
+}
+
+// "volumes 1, 2 and 3 have labels of 36 letters A, B, C"
+fn small_labels(room: &mut [u8]) {
+    letters(room, 0, b'A');
+    letters(room, 1, b'B');
+    letters(room, 2, b'C');
+}
+
+fn small(room: &mut [u8]) {
+    empty(room);
+    small_elements(room);
+    small_labels(room);
+}
+
+// The tables as a whole.
+fn whole(state: State, what: u8, room: &mut [u8]) -> Effect {
+    if what == word::TABLES_SMALL {
+        small(room);
+        return sized(state, 7, 3);
+    }
+    empty(room);
+    sized(state, 0, 0)
+}
+
+// "The element table is then made anew: an empty element for each address of the four ranges."
+fn anew(length: usize, room: &mut [u8]) -> Length {
+    let head = case_rooms::part(room, parts::HEAD_AT, length);
+    if head.len() < layout::HEAD_SIZE {
+        return Length::Fault(fault::OUTSIDE);
+    }
+    let n = layout::ELEMENT_SIZE * tables::total(tables::ranges(head));
+    if parts::ELEMENTS_MOST < n {
+        return Length::Fault(fault::TOO_LARGE);
+    }
+    case_rooms::paint(room, parts::ELEMENTS_AT, n, 0);
+    Length::Is(n)
+}
+
+// "a range of the head": the k-th, from 0 on, of a head of `length` bytes
+fn range(k: usize, first: u32, count: u32, length: usize, room: &mut [u8]) -> Length {
+    if 0xFFFF < first {
+        return Length::Fault(fault::ABOVE_WORD);
+    }
+    if 0xFFFF < count {
+        return Length::Fault(fault::ABOVE_WORD);
+    }
+    if room.len() < layout::HEAD_SIZE {
+        return Length::Fault(fault::OUTSIDE);
+    }
+    if layout::RANGES <= k {
+        return Length::Fault(fault::OUTSIDE);
+    }
+    let at = layout::RANGE_SIZE * k;
+    wire::put_word(room, at, first as u16);
+    wire::put_word(room, at + layout::RANGE_COUNT, count as u16);
+    anew(length, room)
+}
+
+// "the table's length in bytes"; "the tag table has V records"
+fn length_asked(line: Line) -> usize {
+    let n = line.first as usize;
+    if line.word == word::VOLUMES {
+        return layout::TAG_SIZE * n;
+    }
+    n
+}
+
+fn lengthen(state: State, line: Line, room: &mut [u8]) -> Effect {
+    let what = class::which(line.word);
+    let length = case_rooms::length_of(state, what);
+    table::with(
+        state,
+        what,
+        table::resize(what, length, length_asked(line), room),
+    )
+}
+
+pub fn build(state: State, line: Line, room: &mut [u8], bytes: &[u8]) -> Effect {
+    let what = line.word;
+    let class = class::of(what);
+    if class == class::WHOLE {
+        return whole(state, what, room);
+    }
+    if class == class::RANGE {
+        let length = case_rooms::length_of(state, parts::HEAD);
+        return table::with(
+            state,
+            parts::ELEMENTS,
+            range(class::which(what), line.first, line.second, length, room),
+        );
+    }
+    if class == class::LABEL {
+        return label(state, line.first, room, bytes);
+    }
+    lengthen(state, line, room)
+}

@@ -1,0 +1,71 @@
+-- The value that a line asks for, as the rules name it. Assumes nothing.
+use Prim.Native.Nat.{ℕ, _+_, _*_}
+use mathlib.Core.List.{List}
+use lib.ListN.{length}
+use lib.Dec.{eqb, leb, ltb}
+use Rattle.rules.specs.Choice.{when}
+use Rattle.rules.specs.Tables.{headSize, hosts, places, volume, source, holder, id, mark, unit, mask, key, asc, ascq, attention, attentionq}
+use Rattle.rules.specs.Roster.{roster}
+use Rattle.rules.specs.Sound.{within}
+use Rattle.order.specs.declared.Reply.{Reply}
+use Rattle.tables.specs.declared.Types.the-variants.{Any}
+use Rattle.tables.specs.declared.Found.{Found}
+use Rattle.tables.specs.declared.Found.the-variants.{At, Nothing}
+use Rattle.tables.specs.LookUp.{found}
+use Rattle.case_script.specs.Words.{NUMBER, STATUS, COUNT, PREVENTERS, VOLUME, SOURCE, HOLDER, ID, UNIT, SENSE}
+use Rattle.case_script.specs.Codes.{noElement, noHost, outside}
+use Rattle.case_rooms.specs.Alike.{compared}
+use Rattle.case_trial.specs.declared.judge.Value.{Value}
+use Rattle.case_trial.specs.declared.judge.Value.the-variants.{Is, Missing}
+use Rattle.case_rooms.specs.declared.Finding.{Finding}
+use Rattle.case_rooms.specs.declared.Finding.the-variants.{Fault}
+
+-- "the reply of the last call"
+unfoldable pub replied : Reply → ℕ → ℕ
+replied r w =
+    when (eqb w NUMBER) (r .number)
+    (when (eqb w STATUS) (r .status)
+    (when (eqb w COUNT) (r .count)
+    (when (eqb w PREVENTERS) (r .preventers)
+    (r .lowest))))
+
+-- a field of the element at a place
+unfoldable pub fieldAt : List ℕ → ℕ → ℕ → Value
+fieldAt elements w p =
+    when (leb (places elements) p) (Missing outside)
+    (when (eqb w VOLUME) (Is (volume elements p))
+    (when (eqb w SOURCE) (Is (source elements p))
+    (when (eqb w HOLDER) (Is (holder elements p))
+    (when (eqb w ID) (Is (id elements p))
+    (Is (mark elements p))))))
+
+unfoldable pub fieldIn : List ℕ → ℕ → Found → Value
+fieldIn elements w (At p) = fieldAt elements w p
+fieldIn elements w Nothing = Missing noElement
+
+-- "the element at an address"
+unfoldable pub elementField : List ℕ → List ℕ → ℕ → ℕ → Value
+elementField head elements w a =
+    when (ltb (length head) headSize) (Missing outside) (fieldIn elements w (found Any (roster head) a))
+
+-- "unit holder and prevent mask"
+unfoldable pub unitOrMask : List ℕ → ℕ → Value
+unitOrMask head w =
+    when (ltb (length head) headSize) (Missing outside) (when (eqb w UNIT) (Is (unit head)) (Is (mask head)))
+
+-- key, ASC and ASCQ as one number
+abbrev pub joined : ℕ → ℕ → ℕ → ℕ
+joined k a q = k * 65536 + (a * 256 + q)
+
+-- "a host's record"
+unfoldable pub hostRecord : List ℕ → ℕ → ℕ → Value
+hostRecord head w h =
+    when (ltb (length head) headSize) (Missing outside)
+    (when (within 1 hosts h)
+    (when (eqb w SENSE) (Is (joined (key head h) (asc head h) (ascq head h))) (Is (joined 0 (attention head h) (attentionq head h))))
+    (Missing noHost))
+
+-- the value against the one expected
+unfoldable pub against : ℕ → Value → ℕ → Finding
+against what (Is found) expected = compared what found expected
+against what (Missing why) expected = Fault why

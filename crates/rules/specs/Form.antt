@@ -1,0 +1,65 @@
+-- Step 4, once for all commands: "A bit without a use below, control byte, invert or third party not 0, or a type code above 4: 5/24/00. Bits 5
+-- to 7 of byte 1 are ignored." Assumes nothing.
+use Prim.Native.Nat.{ℕ, suc}
+use mathlib.Core.List.{List, [], _∷_}
+use lib.ListN.{length}
+use lib.Bits.{bitAnd}
+use lib.Dec.{eqb, leb, ltb}
+use Rattle.rules.specs.Choice.{when, allOf, differ}
+use Rattle.rules.specs.Bytes.{byte}
+use Rattle.rules.specs.Roster.{drive}
+use Rattle.rules.specs.Operation.{Operation, TestUnitReady, RequestSense, Reserve, Release, PreventAllow, MoveMedium, ExchangeMedium, ReadElementStatus, Unknown}
+use Rattle.rules.specs.Order.{Verdict, InvalidField, refused}
+use Rattle.rules.specs.Holds.{ofUnit}
+use Rattle.rules.specs.Listing.{typeCode}
+
+-- the bits without a use of each byte, from byte 1 on
+unfoldable pub unused : Operation → List ℕ
+unused TestUnitReady = 0x1F ∷ 0xFF ∷ 0xFF ∷ 0xFF ∷ 0xFF ∷ []
+-- "byte 4 allocation"
+unused RequestSense = 0x1F ∷ 0xFF ∷ 0xFF ∷ 0x00 ∷ 0xFF ∷ []
+-- "byte 1 bit 0 Element, bits 1-4 third party, byte 2 id"; bytes 3-4 list length
+unused Reserve = 0x1E ∷ 0x00 ∷ 0x00 ∷ 0x00 ∷ 0xFF ∷ []
+-- "bytes 1 and 2 as RESERVE"
+unused Release = 0x1E ∷ 0x00 ∷ 0xFF ∷ 0xFF ∷ 0xFF ∷ []
+-- "byte 4 bit 0"
+unused PreventAllow = 0x1F ∷ 0xFF ∷ 0xFF ∷ 0xFE ∷ 0xFF ∷ []
+-- "bytes 2-3 transport, 4-5 source, 6-7 destination, bit 0 of byte 10 invert"
+unused MoveMedium = 0x1F ∷ 0x00 ∷ 0x00 ∷ 0x00 ∷ 0x00 ∷ 0x00 ∷ 0x00 ∷ 0xFF ∷ 0xFF ∷ 0xFF ∷ 0xFF ∷ []
+-- "4-5 source, 6-7 first destination, 8-9 second; byte 10 bits 0 and 1 invert"
+unused ExchangeMedium = 0x1F ∷ 0x00 ∷ 0x00 ∷ 0x00 ∷ 0x00 ∷ 0x00 ∷ 0x00 ∷ 0x00 ∷ 0x00 ∷ 0xFF ∷ 0xFF ∷ []
+-- "byte 1 bit 4 tags, bits 0-3 type .., 2-3 start, 4-5 most elements, 7-9 allocation"
+unused ReadElementStatus = 0x00 ∷ 0x00 ∷ 0x00 ∷ 0x00 ∷ 0x00 ∷ 0xFF ∷ 0x00 ∷ 0x00 ∷ 0x00 ∷ 0xFF ∷ 0xFF ∷ []
+unused Unknown = []
+
+-- the lowest byte, from byte i on, that has a bit without a use; 0 where none has
+unfoldable pub strayFrom : List ℕ → List ℕ → ℕ → ℕ
+strayFrom [] block i = 0
+strayFrom (m ∷ ms) block i = when (eqb (bitAnd (byte block i) m) 0) (strayFrom ms block (suc i)) i
+
+unfoldable pub stray : List ℕ → List ℕ → ℕ
+stray masks block = strayFrom masks block 1
+
+-- a fault of the command's own, at its byte; 0 where there is none. "a type code above 4"; RESERVE with Element 0: "list length must be 0 (else 5/24/00)"
+unfoldable pub ownFault : Operation → List ℕ → List ℕ → ℕ
+ownFault TestUnitReady block list = 0
+ownFault RequestSense block list = 0
+ownFault Reserve block list = when (allOf (ofUnit block ∷ differ (length list) 0 ∷ [])) 3 0
+ownFault Release block list = 0
+ownFault PreventAllow block list = 0
+ownFault MoveMedium block list = 0
+ownFault ExchangeMedium block list = 0
+ownFault ReadElementStatus block list = when (ltb drive (typeCode block)) 1 0
+ownFault Unknown block list = 0
+
+-- the lower of two bytes at fault, 0 being none
+unfoldable pub lower : ℕ → ℕ → ℕ
+lower i j = when (eqb i 0) j (when (eqb j 0) i (when (leb i j) i j))
+
+-- where step 4 finds a fault: the lowest byte; 0 where it finds none
+unfoldable pub fault : Operation → List ℕ → List ℕ → ℕ
+fault op block list = lower (stray (unused op) block) (ownFault op block list)
+
+-- step 4, then the rest
+unfoldable pub formed : Operation → ℕ → List ℕ → List ℕ → Verdict → Verdict
+formed op h block list rest = when (eqb (fault op block list) 0) rest (refused h (InvalidField (fault op block list)))

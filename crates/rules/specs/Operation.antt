@@ -1,0 +1,58 @@
+-- The commands, told apart by the first byte of a block. Assumes nothing.
+use Prim.Native.Nat.{ℕ}
+use mathlib.Core.List.{List}
+use lib.Dec.{eqb}
+use Rattle.rules.specs.Choice.{when}
+use Rattle.rules.specs.Bytes.{byte}
+
+-- "Eight commands: TEST UNIT READY 00h, REQUEST SENSE 03h, RESERVE 16h, RELEASE 17h, PREVENT ALLOW 1Eh, MOVE MEDIUM A5h, EXCHANGE MEDIUM A6h,
+-- READ ELEMENT STATUS B8h"; `Unknown` is any "Other first byte"
+pub data Operation : Type 0 where
+  TestUnitReady : Operation
+  RequestSense : Operation
+  Reserve : Operation
+  Release : Operation
+  PreventAllow : Operation
+  MoveMedium : Operation
+  ExchangeMedium : Operation
+  ReadElementStatus : Operation
+  Unknown : Operation
+
+abbrev pub TEST-UNIT-READY : ℕ
+TEST-UNIT-READY = 0x00
+
+abbrev pub REQUEST-SENSE : ℕ
+REQUEST-SENSE = 0x03
+
+abbrev pub RESERVE : ℕ
+RESERVE = 0x16
+
+abbrev pub RELEASE : ℕ
+RELEASE = 0x17
+
+abbrev pub PREVENT-ALLOW : ℕ
+PREVENT-ALLOW = 0x1E
+
+abbrev pub MOVE-MEDIUM : ℕ
+MOVE-MEDIUM = 0xA5
+
+abbrev pub EXCHANGE-MEDIUM : ℕ
+EXCHANGE-MEDIUM = 0xA6
+
+abbrev pub READ-ELEMENT-STATUS : ℕ
+READ-ELEMENT-STATUS = 0xB8
+
+-- the operation of a first byte: the one place where it is decoded
+unfoldable pub decoded : ℕ → Operation
+decoded first =
+    when (eqb first TEST-UNIT-READY) TestUnitReady
+    (when (eqb first REQUEST-SENSE) RequestSense
+    (when (eqb first RESERVE) Reserve
+    (when (eqb first RELEASE) Release
+    (when (eqb first PREVENT-ALLOW) PreventAllow
+    (when (eqb first MOVE-MEDIUM) MoveMedium
+    (when (eqb first EXCHANGE-MEDIUM) ExchangeMedium
+    (when (eqb first READ-ELEMENT-STATUS) ReadElementStatus Unknown)))))))
+
+unfoldable pub operation : List ℕ → Operation
+operation block = decoded (byte block 0)

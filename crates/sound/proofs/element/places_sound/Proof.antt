@@ -1,0 +1,76 @@
+-- `sound::element::places_sound`: at the loop's head the first k runs are passed, and the places before `first`. Assumes nothing.
+use Prim.Native.Nat.{_-_}
+use native.Mathlib.Omega.{arith}
+use borrow.Author.Needs.{needs}
+use Rattle.sound.proofs.Once.{marks-begin}
+use Rattle.sound.proofs.Pass.{Filing, file-begins, file-run, file-on, file-stops, file-ends}
+use Rattle.sound.proofs.element.places_sound.Statement.{statement}
+use Rattle.sound.proofs.element.places_sound.Tie as tie
+
+abbrev Inv-loop : tie.InvT-loop
+Inv-loop unit top elements runs seen₀ first₀ k₀ seen first k = Filing unit top runs elements seen first k
+
+abbrev μ-loop : tie.MeasureT-loop
+μ-loop unit top elements runs seen₀ first₀ k₀ seen first k = 4 - k
+
+loop-holds : tie.Need-loop-holds Inv-loop μ-loop
+loop-holds c = file-begins _ _ _ _ _ (marks-begin _)
+
+mul-r : tie.Need-mul-r Inv-loop μ-loop
+mul-r c = search needs
+
+array-copy-out-r : tie.Need-array-copy-out-r Inv-loop μ-loop
+array-copy-out-r c = search needs
+
+cast-end : tie.Need-cast-end Inv-loop μ-loop
+cast-end c = search needs
+
+add-end : tie.Need-add-end Inv-loop μ-loop
+add-end c =
+    let turn = c .before .before .before in
+    let start = turn .before .before in
+    let run = file-run _ _ _ _ (search needs) _ _ _ (turn .loop .inv) (c .before .before .loop-test .taken) (start .pre .1 .0) (start .pre .1 .1) in
+    omega (arith, run .there)
+
+run-sound-requires : tie.Need-run-sound-requires Inv-loop μ-loop
+run-sound-requires c κs =
+    let turn = c .before .before .before .before in
+    let start = turn .before .before in
+    (start .pre .0, file-run _ _ _ _ (search needs) _ _ _ (turn .loop .inv) (c .before .before .before .loop-test .taken) (start .pre .1 .0) (start .pre .1 .1))
+
+returns : tie.Need-returns Inv-loop μ-loop
+returns c =
+    let turn = c .before .before .before .before .before .before in
+    file-stops _ _ _ _ (search needs) _ _ _ (turn .loop .inv) (c .before .before .before .before .before .loop-test .taken) _ (c .before .run-sound .ensures .0) (c .if1 .taken)
+
+add-k : tie.Need-add-k Inv-loop μ-loop
+add-k c = search needs
+
+loop-less : tie.Need-loop-less Inv-loop μ-loop
+loop-less c = search needs
+
+loop-again : tie.Need-loop-again Inv-loop μ-loop
+loop-again c =
+    let turn = c .before .before .before .before .before .before in
+    file-on _ _ _ _ (search needs) _ _ _ (turn .loop .inv) (c .before .before .before .before .before .loop-test .taken) _ (c .before .run-sound .ensures .0) (c .if1 .left) _ (c .before .run-sound .ensures .1)
+
+returns-2 : tie.Need-returns-2 Inv-loop μ-loop
+returns-2 c = file-ends _ _ _ _ (search needs) _ _ _ (c .before .loop .inv) (c .loop-test .left)
+
+pub places-sound-spec : {M : Type 1} → statement M
+places-sound-spec =
+    tie.close
+    (tie.spec
+    Inv-loop
+    μ-loop
+    loop-holds
+    mul-r
+    array-copy-out-r
+    cast-end
+    add-end
+    run-sound-requires
+    returns
+    add-k
+    loop-less
+    loop-again
+    returns-2)

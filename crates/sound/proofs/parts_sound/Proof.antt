@@ -1,0 +1,57 @@
+-- `sound::parts_sound` meets its contract. Assumes nothing.
+use Rattle.rules.specs.Sound.{sound}
+use Rattle.tables.proofs.Roster.{runs-typed}
+use Rattle.sound_head.proofs.Tests.{tests, all-not-go, all-last}
+use Rattle.sound.proofs.Whole.{rest-top, sound-by}
+use borrow.Author.Needs.{needs}
+use Rattle.sound.proofs.parts_sound.Statement.{statement}
+use Rattle.sound.proofs.parts_sound.Tie as tie
+
+sound-requires : tie.Need-sound-requires
+sound-requires c κs = search needs
+
+returns : tie.Need-returns
+unfolding sound
+returns c = search tests depth 10
+
+rest-sound-requires : tie.Need-rest-sound-requires
+rest-sound-requires c κs = search needs
+
+returns-2 : tie.Need-returns-2
+unfolding sound
+returns-2 c = search tests depth 10
+
+unit-requires : tie.Need-unit-requires
+unit-requires c κs = search needs
+
+volumes-requires : tie.Need-volumes-requires
+volumes-requires c κs = search needs
+
+-- the runs are the head's, as was asked of the caller
+ruleset typed = (needs, runs-typed)
+
+elements-sound-requires : tie.Need-elements-sound-requires
+elements-sound-requires c κs =
+    let two = c .before .before in
+    (search typed, rest-top _ _ _ (two .before .rest-sound .ensures) (two .if2 .left) (c .volumes .ensures))
+
+returns-3 : tie.Need-returns-3
+returns-3 c =
+    let two = c .before .before .before in
+    let one = two .before .before in
+    sound-by _ _ (search needs) _ _ _ _ (c .before .before .unit .ensures) (c .before .volumes .ensures) _
+    (all-not-go _ _ _ _ (one .before .sound .ensures) (one .if1 .left)
+    (all-not-go _ _ _ _ (two .before .rest-sound .ensures) (two .if2 .left) (all-last _ _ (c .elements-sound .ensures))))
+
+pub parts-sound-spec : {M : Type 1} → statement M
+parts-sound-spec =
+    tie.close
+    (tie.spec
+    sound-requires
+    returns
+    rest-sound-requires
+    returns-2
+    unit-requires
+    volumes-requires
+    elements-sound-requires
+    returns-3)

@@ -1,3 +1,0 @@
-// What the program prints, and what it counts.
-pub mod tally;
-pub mod words;

@@ -1,0 +1,489 @@
+/* The rules of the library in plain C, written for speed: what the command core is timed beside. It answers exactly what the core answers.
+ * One loop judges the elements; an address is found from the ranges; RESERVE keeps a mark for each place. */
+#include "plain.h"
+#include <stdbool.h>
+#include <string.h>
+
+enum { TRANSPORT = 1, STORAGE, PORT, DRIVE };
+enum { HOSTS = 8, MOST_ELEMENTS = 512, MOST_TRANSPORTS = 127, MOST_VOLUMES = 512, MOST_DESCRIPTORS = 32, DESCRIPTOR_BYTES = 6 };
+enum { UNIT = 16, MASK = 17, RECORDS = 18, RECORD_BYTES = 5 };
+enum { VOLUME = 0, SOURCE = 2, HOLDER = 4, ID = 5, MARK = 6, ZERO = 7 };
+enum { NOWHERE = MOST_ELEMENTS };
+
+typedef struct {
+    unsigned first, count, kind, place; /* place: where its elements begin in the table */
+} range;
+
+typedef struct {
+    uint8_t *head, *elements;
+    const uint8_t *tags, *blank;
+    unsigned count, volumes, filled;
+    range ranges[4]; /* those with elements, in order of address */
+} library;
+
+typedef struct {
+    uint32_t host;
+    const uint8_t *block, *parameters;
+    uint8_t *answer;
+    size_t parameters_len, answer_len;
+} request;
+
+static inline unsigned get16(const uint8_t *at) { return (unsigned)at[0] << 8 | at[1]; }
+
+static inline void put16(uint8_t *at, unsigned value)
+{
+    at[0] = (uint8_t)(value >> 8);
+    at[1] = (uint8_t)value;
+}
+
+static inline void put24(uint8_t *at, unsigned value)
+{
+    at[0] = (uint8_t)(value >> 16);
+    put16(at + 1, value);
+}
+
+static inline unsigned min(unsigned a, unsigned b) { return a < b ? a : b; }
+
+/* ---- the tables ---- */
+
+/* The place of an address, NOWHERE for none; its type in *kind. */
+static inline unsigned find(const library *l, unsigned address, unsigned *kind)
+{
+    for (unsigned r = 0; r < l->filled; r++)
+        if (address - l->ranges[r].first < l->ranges[r].count) {
+            *kind = l->ranges[r].kind;
+            return l->ranges[r].place + address - l->ranges[r].first;
+        }
+    return NOWHERE;
+}
+
+static bool read_ranges(library *l)
+{
+    unsigned of_kind[5] = {0};
+    for (unsigned kind = TRANSPORT; kind <= DRIVE; kind++) {
+        unsigned first = get16(l->head + 4 * (kind - 1)), count = get16(l->head + 4 * (kind - 1) + 2), at;
+        of_kind[kind] = count;
+        if (count == 0 ? first != 0 : first == 0 || first + count > 65536)
+            return false;
+        if (count == 0)
+            continue;
+        for (at = l->filled++; at > 0 && l->ranges[at - 1].first > first; at--)
+            l->ranges[at] = l->ranges[at - 1];
+        l->ranges[at] = (range){first, count, kind, 0};
+    }
+    for (unsigned r = 0; r < l->filled; r++) {
+        if (r > 0 && l->ranges[r].first < l->ranges[r - 1].first + l->ranges[r - 1].count)
+            return false;
+        l->ranges[r].place = l->count;
+        l->count += l->ranges[r].count;
+    }
+    return l->count <= MOST_ELEMENTS && of_kind[TRANSPORT] - 1 < MOST_TRANSPORTS && of_kind[STORAGE] + of_kind[PORT] > 0;
+}
+
+static bool hosts_sound(const library *l)
+{
+    const uint8_t *r = l->head + RECORDS;
+    for (unsigned host = 0; host < HOSTS; host++, r += RECORD_BYTES) {
+        unsigned attention = get16(r + 3);
+        if (r[0] > 15 || (r[0] == 0 && (r[1] | r[2])) || (attention && attention != 0x2801 && attention != 0x2900))
+            return false;
+    }
+    return l->head[UNIT] <= HOSTS;
+}
+
+static bool elements_sound(const library *l)
+{
+    uint8_t seen[MOST_VOLUMES + 1];
+    const uint8_t *e = l->elements, unit = l->head[UNIT];
+    memset(seen, 0, l->volumes + 1);
+    for (unsigned r = 0; r < l->filled; r++) {
+        const unsigned kind = l->ranges[r].kind, most = kind == TRANSPORT ? 0 : l->volumes;
+        for (const uint8_t *end = e + SMC_ELEMENT_SIZE * l->ranges[r].count; e < end; e += SMC_ELEMENT_SIZE) {
+            unsigned volume = get16(e + VOLUME), source = get16(e + SOURCE), unused;
+            if (volume > most || e[ZERO])
+                return false;
+            if (volume && seen[volume]++)
+                return false;
+            if (source && (!volume || find(l, source, &unused) == NOWHERE))
+                return false;
+            if (e[MARK] && (e[MARK] != 1 || kind != PORT || !volume))
+                return false;
+            if (e[HOLDER] ? e[HOLDER] > HOSTS || (unit && e[HOLDER] != unit) : e[ID])
+                return false;
+        }
+    }
+    return true;
+}
+
+#define LENT head, head_len, elements, elements_len, tags, tags_len, blank, blank_len
+
+static inline bool read_tables(library *l, SMC_TABLES)
+{
+    *l = (library){.head = head, .elements = elements, .tags = tags, .blank = blank, .volumes = (unsigned)(tags_len / SMC_TAG_SIZE)};
+    return head_len == SMC_HEAD_SIZE && blank_len == SMC_TAG_SIZE && tags_len <= MOST_VOLUMES * SMC_TAG_SIZE &&
+           tags_len % SMC_TAG_SIZE == 0 && read_ranges(l) && elements_len == (size_t)SMC_ELEMENT_SIZE * l->count && hosts_sound(l) &&
+           elements_sound(l);
+}
+
+/* ---- how a call ends ---- */
+
+static inline smc_reply refused(uint8_t number) { return (smc_reply){.number = number}; }
+
+static inline smc_reply ends(library *l, uint32_t host, uint8_t status, uint8_t key, uint8_t asc, uint8_t ascq)
+{
+    uint8_t *record = l->head + RECORDS + RECORD_BYTES * (host - 1);
+    record[0] = key;
+    record[1] = asc;
+    record[2] = ascq;
+    return (smc_reply){.status = status};
+}
+
+#define GOOD ends(l, q->host, SMC_GOOD, 0, 0, 0)
+#define CONFLICT ends(l, q->host, SMC_RESERVATION_CONFLICT, 0, 0, 0)
+#define CHECK(asc, ascq) ends(l, q->host, SMC_CHECK_CONDITION, 5, asc, ascq)
+#define INVALID_FIELD CHECK(0x24, 0x00)
+#define LIST_LENGTH CHECK(0x1A, 0x00)
+#define LIST_RESERVED CHECK(0x26, 0x00)
+#define WRONG_ADDRESS CHECK(0x21, 0x01)
+#define SOURCE_EMPTY CHECK(0x3B, 0x0E)
+#define DESTINATION_FULL CHECK(0x3B, 0x0D)
+
+/* ---- the commands ---- */
+
+static smc_reply request_sense(library *l, const request *q)
+{
+    uint8_t *record = l->head + RECORDS + RECORD_BYTES * (q->host - 1), told[18] = {0x70, [7] = 0x0A};
+    unsigned count = min(q->block[4], sizeof told);
+    if (q->answer_len < count)
+        return refused(SMC_ANSWER_TOO_SHORT);
+    if (record[0]) {
+        told[2] = record[0];
+        memcpy(told + 12, record + 1, 2);
+        memset(record, 0, 3);
+    } else if (record[3]) {
+        told[2] = 6;
+        memcpy(told + 12, record + 3, 2);
+        memset(record + 3, 0, 2);
+    }
+    if (count > 0)
+        memcpy(q->answer, told, count);
+    return (smc_reply){.count = count};
+}
+
+static smc_reply reserve_unit(library *l, const request *q)
+{
+    if (q->parameters_len != 0)
+        return INVALID_FIELD;
+    for (const uint8_t *e = l->elements, *end = e + SMC_ELEMENT_SIZE * l->count; e < end; e += SMC_ELEMENT_SIZE)
+        if (e[HOLDER] && e[HOLDER] != q->host)
+            return CONFLICT;
+    l->head[UNIT] = (uint8_t)q->host;
+    return GOOD;
+}
+
+static smc_reply reserve_elements(library *l, const request *q)
+{
+    uint8_t named[MOST_ELEMENTS], host = (uint8_t)q->host, id = q->block[2];
+    const uint8_t *d = q->parameters, *last = d + q->parameters_len;
+    bool conflict = false;
+    memset(named, 0, l->count);
+    if (q->parameters_len == 0 || q->parameters_len > MOST_DESCRIPTORS * DESCRIPTOR_BYTES || q->parameters_len % DESCRIPTOR_BYTES)
+        return LIST_LENGTH;
+    for (; d < last; d += DESCRIPTOR_BYTES) {
+        unsigned unused, number = get16(d + 2), place = find(l, get16(d + 4), &unused);
+        if (get16(d))
+            return LIST_RESERVED;
+        if (place == NOWHERE || number > l->count - place)
+            return WRONG_ADDRESS;
+        for (unsigned end = number ? place + number : l->count; place < end; place++) {
+            const uint8_t *e = l->elements + SMC_ELEMENT_SIZE * place;
+            if (named[place])
+                return WRONG_ADDRESS;
+            named[place] = 1;
+            conflict |= e[HOLDER] && (e[HOLDER] != host || e[ID] != id);
+        }
+    }
+    if (conflict)
+        return CONFLICT;
+    for (unsigned place = 0; place < l->count; place++) {
+        uint8_t *e = l->elements + SMC_ELEMENT_SIZE * place;
+        if (named[place]) {
+            e[HOLDER] = host;
+            e[ID] = id;
+        } else if (e[HOLDER] == host && e[ID] == id) {
+            e[HOLDER] = e[ID] = 0;
+        }
+    }
+    return GOOD;
+}
+
+static smc_reply release(library *l, const request *q)
+{
+    bool all = !(q->block[1] & 1);
+    if (all && l->head[UNIT] == q->host)
+        l->head[UNIT] = 0;
+    for (uint8_t *e = l->elements, *end = e + SMC_ELEMENT_SIZE * l->count; e < end; e += SMC_ELEMENT_SIZE)
+        if (e[HOLDER] == q->host && (all || e[ID] == q->block[2]))
+            e[HOLDER] = e[ID] = 0;
+    return GOOD;
+}
+
+static smc_reply prevent_allow(library *l, const request *q)
+{
+    uint8_t bit = (uint8_t)(1 << (q->host - 1));
+    l->head[MASK] = q->block[4] ? l->head[MASK] | bit : l->head[MASK] & (uint8_t)~bit;
+    return GOOD;
+}
+
+/* The record of the transport that is named, null for none; 0 names the lowest. */
+static inline uint8_t *transport(const library *l, unsigned address)
+{
+    unsigned kind = TRANSPORT, place = find(l, address ? address : get16(l->head), &kind);
+    return place == NOWHERE || kind != TRANSPORT ? NULL : l->elements + SMC_ELEMENT_SIZE * place;
+}
+
+/* The record of an element that is no transport, null for none. */
+static inline uint8_t *spot(const library *l, unsigned address)
+{
+    unsigned kind = TRANSPORT, place = find(l, address, &kind);
+    return kind == TRANSPORT ? NULL : l->elements + SMC_ELEMENT_SIZE * place;
+}
+
+static inline bool others(const uint8_t *e, const request *q) { return e[HOLDER] && e[HOLDER] != q->host; }
+
+/* The first four bytes are volume and source. */
+static inline void fill(uint8_t *e, unsigned volume, unsigned source)
+{
+    put16(e + VOLUME, volume);
+    put16(e + SOURCE, source);
+    e[MARK] = 0;
+}
+
+static smc_reply move(library *l, const request *q)
+{
+    unsigned source = get16(q->block + 4), destination = get16(q->block + 6);
+    uint8_t *t = transport(l, get16(q->block + 2)), *s = spot(l, source), *d = spot(l, destination);
+    if (!t || !s || !d)
+        return WRONG_ADDRESS;
+    if (others(t, q) || others(s, q) || others(d, q))
+        return CONFLICT;
+    if (!get16(s + VOLUME))
+        return SOURCE_EMPTY;
+    if (get16(d + VOLUME))
+        return DESTINATION_FULL;
+    fill(d, get16(s + VOLUME), source);
+    fill(s, 0, 0);
+    return GOOD;
+}
+
+static smc_reply exchange(library *l, const request *q)
+{
+    unsigned source = get16(q->block + 4), first = get16(q->block + 6), second = get16(q->block + 8), up, down;
+    uint8_t *t = transport(l, get16(q->block + 2)), *s = spot(l, source), *f = spot(l, first), *g = spot(l, second);
+    if (!t || !s || !f || !g || f == s)
+        return WRONG_ADDRESS;
+    if (others(t, q) || others(s, q) || others(f, q) || others(g, q))
+        return CONFLICT;
+    up = get16(s + VOLUME);
+    down = get16(f + VOLUME);
+    if (!up || !down)
+        return SOURCE_EMPTY;
+    if (g != s && get16(g + VOLUME))
+        return DESTINATION_FULL;
+    fill(s, 0, 0);
+    fill(f, up, source);
+    fill(g, down, first);
+    return GOOD;
+}
+
+static inline uint8_t *describe(const library *l, uint8_t *out, const uint8_t *e, unsigned address, unsigned kind, bool tags)
+{
+    static const uint8_t flags[] = {[TRANSPORT] = 0x00, [STORAGE] = 0x08, [PORT] = 0x38, [DRIVE] = 0x08};
+    unsigned volume = get16(e + VOLUME);
+    memset(out, 0, 16);
+    put16(out, address);
+    out[2] = flags[kind] | (volume != 0) | (uint8_t)(e[MARK] << 1);
+    out[9] = get16(e + SOURCE) ? 0x80 : 0;
+    memcpy(out + 10, e + SOURCE, 2);
+    if (!tags)
+        return out + 16;
+    memcpy(out + 12, volume ? l->tags + SMC_TAG_SIZE * (volume - 1) : l->blank, SMC_TAG_SIZE);
+    memset(out + 48, 0, 4);
+    return out + 52;
+}
+
+static smc_reply read_element_status(library *l, const request *q)
+{
+    const uint8_t *b = q->block;
+    const bool tags = b[1] & 0x10;
+    const unsigned type = b[1] & 0x0F, start = get16(b + 2), size = tags ? 52 : 16, allocation = (unsigned)b[7] << 16 | get16(b + 8);
+    unsigned left = get16(b + 4), pages = 0, chosen = 0, counted = 0, returned = 8;
+    bool open = true; /* nothing was cut yet */
+    range page[4];
+    unsigned shown[4];
+    uint8_t header[8] = {0}, *out;
+    for (unsigned r = 0; r < l->filled; r++) {
+        range p = l->ranges[r];
+        unsigned skipped = start > p.first ? min(start - p.first, p.count) : 0;
+        p = (range){p.first + skipped, min(p.count - skipped, left), p.kind, p.place + skipped};
+        if (p.count == 0 || (type && type != p.kind))
+            continue;
+        left -= p.count;
+        chosen += p.count;
+        counted += 8 + size * p.count;
+        shown[pages] = open && allocation >= returned + 8 + size ? min(p.count, (allocation - returned - 8) / size) : 0;
+        if (shown[pages])
+            returned += 8 + size * shown[pages];
+        open = shown[pages] == p.count;
+        page[pages++] = p;
+    }
+    put16(header, pages ? page[0].first : 0);
+    put16(header + 2, chosen);
+    put24(header + 5, counted);
+    if (allocation < 8)
+        returned = allocation;
+    if (q->answer_len < returned)
+        return refused(SMC_ANSWER_TOO_SHORT);
+    if (returned > 0)
+        memcpy(q->answer, header, min(returned, 8));
+    out = returned > 8 ? q->answer + 8 : NULL;
+    for (unsigned p = 0; out && p < pages && shown[p]; p++) {
+        const uint8_t *e = l->elements + SMC_ELEMENT_SIZE * page[p].place;
+        memcpy(out, (uint8_t[5]){(uint8_t)page[p].kind, tags ? 0x80 : 0, 0, (uint8_t)size, 0}, 5);
+        put24(out + 5, size * page[p].count);
+        out += 8;
+        for (unsigned i = 0; i < shown[p]; i++, e += SMC_ELEMENT_SIZE)
+            out = describe(l, out, e, page[p].first + i, page[p].kind, tags);
+    }
+    GOOD;
+    return (smc_reply){.count = returned};
+}
+
+/* ---- the order ---- */
+
+static inline bool block_fits(const uint8_t *block, size_t length)
+{
+    static const uint8_t lengths[8] = {6, 10, 10, 0, 16, 12, 0, 0};
+    return length > 0 && (lengths[block[0] >> 5] == 0 || lengths[block[0] >> 5] == length);
+}
+
+smc_reply plain_command(SMC_TABLES, SMC_COMMAND)
+{
+    const request asked = {host, block, parameters, answer, parameters_len, answer_len}, *q = &asked;
+    const uint8_t *b = block;
+    library here, *l = &here;
+    if (!read_tables(l, LENT))
+        return refused(SMC_TABLES_NOT_SOUND);
+    if (host - 1 >= HOSTS)
+        return refused(SMC_UNKNOWN_HOST);
+    if (!block_fits(block, block_len))
+        return refused(SMC_BLOCK_LENGTH);
+    const uint8_t first = b[0];
+    switch (first) {
+    case 0x00: case 0x03: case 0x16: case 0x17: case 0x1E: case 0xA5: case 0xA6: case 0xB8:
+        if (parameters_len != (first == 0x16 ? get16(b + 3) : 0))
+            return refused(SMC_PARAMETER_LENGTH);
+        break;
+    default:
+        return CHECK(0x20, 0x00);
+    }
+    if (first != 0x03) {
+        uint8_t *attention = head + RECORDS + RECORD_BYTES * (host - 1) + 3, asc = attention[0], ascq = attention[1];
+        if (asc) {
+            memset(attention, 0, 2);
+            return ends(l, host, SMC_CHECK_CONDITION, 6, asc, ascq);
+        }
+        if (first != 0x17 && head[UNIT] && head[UNIT] != host)
+            return CONFLICT;
+    }
+    switch (first) {
+    case 0x00:
+        return (b[1] & 0x1F) | b[2] | b[3] | b[4] | b[5] ? INVALID_FIELD : GOOD;
+    case 0x03:
+        return (b[1] & 0x1F) | b[2] | b[3] | b[5] ? INVALID_FIELD : request_sense(l, q);
+    case 0x16:
+        return (b[1] & 0x1E) | b[5] ? INVALID_FIELD : b[1] & 1 ? reserve_elements(l, q) : reserve_unit(l, q);
+    case 0x17:
+        return (b[1] & 0x1E) | b[3] | b[4] | b[5] ? INVALID_FIELD : release(l, q);
+    case 0x1E:
+        return (b[1] & 0x1F) | b[2] | b[3] | (b[4] & 0xFE) | b[5] ? INVALID_FIELD : prevent_allow(l, q);
+    case 0xA5:
+        return (b[1] & 0x1F) | b[8] | b[9] | b[10] | b[11] ? INVALID_FIELD : move(l, q);
+    case 0xA6:
+        return (b[1] & 0x1F) | b[10] | b[11] ? INVALID_FIELD : exchange(l, q);
+    default:
+        return b[6] | b[10] | b[11] || (b[1] & 0x0F) > 4 ? INVALID_FIELD : read_element_status(l, q);
+    }
+}
+
+/* ---- the events ---- */
+
+/* The record of an import/export element that may be filled or emptied; null for none, and the refusal in *why. */
+static uint8_t *port(const library *l, uint32_t address, bool full, smc_reply *why)
+{
+    unsigned kind = 0, place = find(l, address, &kind), mask = l->head[MASK];
+    uint8_t *e = kind == PORT ? l->elements + SMC_ELEMENT_SIZE * place : NULL;
+    *why = refused(0);
+    if (!e)
+        *why = refused(SMC_NO_IMPORT_EXPORT);
+    else if (mask)
+        *why = (smc_reply){SMC_REMOVAL_PREVENTED, 0, (uint8_t)__builtin_popcount(mask), (uint8_t)(__builtin_ctz(mask) + 1), 0};
+    else if ((get16(e + VOLUME) != 0) != full)
+        *why = refused(SMC_FULL_OR_EMPTY);
+    return why->number ? NULL : e;
+}
+
+static void tell_hosts(library *l)
+{
+    uint8_t *record = l->head + RECORDS;
+    for (unsigned host = 0; host < HOSTS; host++, record += RECORD_BYTES)
+        if (!record[3])
+            put16(record + 3, 0x2801);
+}
+
+smc_reply plain_import(SMC_TABLES, uint32_t address, uint32_t volume)
+{
+    library here, *l = &here;
+    smc_reply why;
+    uint8_t *e;
+    if (!read_tables(l, LENT))
+        return refused(SMC_TABLES_NOT_SOUND);
+    if (!(e = port(l, address, false, &why)))
+        return why;
+    if (volume - 1 >= l->volumes)
+        return refused(SMC_WRONG_VOLUME);
+    for (unsigned place = 0; place < l->count; place++)
+        if (get16(elements + SMC_ELEMENT_SIZE * place) == volume)
+            return refused(SMC_WRONG_VOLUME);
+    fill(e, volume, 0);
+    e[MARK] = 1;
+    tell_hosts(l);
+    return why;
+}
+
+smc_reply plain_export(SMC_TABLES, uint32_t address)
+{
+    library here, *l = &here;
+    smc_reply why;
+    uint8_t *e;
+    if (!read_tables(l, LENT))
+        return refused(SMC_TABLES_NOT_SOUND);
+    if (!(e = port(l, address, true, &why)))
+        return why;
+    fill(e, 0, 0);
+    tell_hosts(l);
+    return why;
+}
+
+smc_reply plain_reset(SMC_TABLES)
+{
+    library here, *l = &here;
+    if (!read_tables(l, LENT))
+        return refused(SMC_TABLES_NOT_SOUND);
+    head[UNIT] = head[MASK] = 0;
+    for (unsigned host = 0; host < HOSTS; host++)
+        memcpy(head + RECORDS + RECORD_BYTES * host, (uint8_t[RECORD_BYTES]){0, 0, 0, 0x29, 0x00}, RECORD_BYTES);
+    for (unsigned place = 0; place < l->count; place++)
+        memset(elements + SMC_ELEMENT_SIZE * place + HOLDER, 0, 2);
+    return refused(0);
+}

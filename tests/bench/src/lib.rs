@@ -1,0 +1,5 @@
+//! Times the command core beside the same rules in plain C.
+
+pub mod plain;
+pub mod rows;
+pub mod timing;

@@ -1,0 +1,15 @@
+//! Document 01 against the reference and the built library. Every expected value is written out by hand.
+
+mod fixture;
+
+mod entries;
+mod events;
+mod house_numbers;
+mod listings;
+mod moves;
+mod reservations;
+mod sense;
+mod shipped_errors;
+mod small_library;
+mod soundness;
+mod vectors;
