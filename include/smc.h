@@ -7,7 +7,8 @@
  * - number 0: the call was carried out; status, count, the tables and the answer are as the rules say.
  * - number 1 to 9: the call was refused; no byte of head, elements or answer has changed, and status and count are 0.
  * - CHECK CONDITION (02h) and RESERVATION CONFLICT (18h) change no element, and of the head only the calling host's five bytes.
- * - Bytes of the answer past count are as they were. count is above 0 only for GOOD of REQUEST SENSE and READ ELEMENT STATUS.
+ * - Bytes of the answer past count are as they were. count is above 0 only for GOOD of REQUEST SENSE, READ ELEMENT STATUS
+ *   and MODE SENSE.
  * - tags and blank are never written. Sound tables stay sound.
  *
  * What a caller owes:
@@ -21,9 +22,9 @@
  *   at once on separate tables.
  * - A call takes less than 2 KB of stack (1.5 to 1.6 measured). In a program that binds symbols lazily the first call takes about 4.6 KB,
  *   once: the dynamic linker's look-up of memset. Linked with -static or -Wl,-z,now it does not.
- * - Every call first checks all tables. Measured, in processor time, the best of 41 runs of 1,000 calls that all ended GOOD: a readiness
- *   test takes about 0.1 microseconds at 7 elements and 2.2 at 512; at 512, MOVE and EXCHANGE take no more than can be told from that, a
- *   whole listing with tags 3.4, and a RESERVE of 32 descriptors, the dearest call found, 33.
+ * - Every call first checks all tables, in one pass. Measured by the benchmark in tests/: a readiness test takes about 0.1 microseconds at 7
+ *   elements and 1.2 at 512; at 512, MOVE, EXCHANGE and MODE SENSE take no more than can be told from that, a whole listing with tags 2.6, and
+ *   a RESERVE of 32 descriptors that name all 512 elements, the dearest call, 240.
  */
 #ifndef SMC_H
 #define SMC_H
@@ -36,7 +37,7 @@ extern "C" {
 #endif
 
 /* The interface's version. It rises with each change that moves a layout, lends a further table or adds an entry. */
-#define SMC_INTERFACE 0
+#define SMC_INTERFACE 1
 
 typedef struct {
     uint8_t number;     /* house number, 0 for none */
@@ -70,7 +71,8 @@ enum {
     SMC_PREVENT_ALLOW = 0x1E,
     SMC_MOVE_MEDIUM = 0xA5,
     SMC_EXCHANGE_MEDIUM = 0xA6,
-    SMC_READ_ELEMENT_STATUS = 0xB8
+    SMC_READ_ELEMENT_STATUS = 0xB8,
+    SMC_MODE_SENSE = 0x1A
 };
 
 /* The types of elements; READ ELEMENT STATUS takes 0 for all. */
@@ -145,6 +147,19 @@ enum { SMC_TRANSPORT = 1, SMC_STORAGE = 2, SMC_IMPORT_EXPORT = 3, SMC_DRIVE = 4 
 #define SMC_FLAG_FULL 0x01
 #define SMC_FLAG_MARKED 0x02   /* a person put the volume there */
 
+/* Mode pages: the header, a page's code and length, what follows. */
+#define SMC_MODE_HEADER_SIZE 4
+#define SMC_MODE_BYTES 0       /* bytes that follow this one in the whole answer */
+#define SMC_MODE_PAGE_HEADER_SIZE 2
+#define SMC_MODE_PAGE_CODE 0   /* in a page */
+#define SMC_MODE_PAGE_BYTES 1  /* bytes that follow this one in the page */
+#define SMC_MODE_ADDRESSES 0x1D
+#define SMC_MODE_GEOMETRY 0x1E
+#define SMC_MODE_CAPABILITIES 0x1F
+#define SMC_MODE_ALL_PAGES 0x3F
+#define SMC_MODE_ARM_SIZE 2    /* in the geometry page, for each transport: rotation, member number */
+#define SMC_LARGEST_MODE_ANSWER 255
+
 /* The largest answer: 512 elements in four pages, with tags. */
 #define SMC_LARGEST_ANSWER 26664
 
@@ -176,7 +191,7 @@ typedef struct {
 
 /* ---- Commands. Numbers 1 to 5. */
 
-/* Any command block. The eight below it answer exactly the same, whatever first byte they are handed. An unknown first byte is
+/* Any command block. The nine below it answer exactly the same, whatever first byte they are handed. An unknown first byte is
  * CHECK CONDITION with 5/20/00. */
 smc_reply smc_command(SMC_TABLES, SMC_COMMAND);
 
@@ -208,6 +223,10 @@ smc_reply smc_exchange_medium(SMC_TABLES, SMC_COMMAND);
 /* Returns a listing, in whole descriptors as many as the allocation has room for. Its counts are of all that was chosen, however small
  * the allocation. */
 smc_reply smc_read_element_status(SMC_TABLES, SMC_COMMAND);
+
+/* Returns mode pages: where each type's addresses are, the transports of the one set, what moves and exchanges. The first bytes of the whole answer, as
+ * many as the allocation has room for; lengths in it are those of the whole. An answer over 256 bytes is refused with 5/24/00. */
+smc_reply smc_mode_sense(SMC_TABLES, SMC_COMMAND);
 
 /* ---- Events. Their status and count are 0, and they know no reservation. */
 

@@ -1,5 +1,5 @@
 /* Every entry of the C interface on the small library: granted and refused calls, canary bytes round every lent slice, empty slices by
- * null pointers, numbers too large for a byte. Expected values are those of document 01. The last line counts: "N passed, M failed". */
+ * null pointers, numbers too large for a byte. Expected values are those of documents 01 and 02. The last line counts: "N passed, M failed". */
 #include "smc.h"
 #include <stdio.h>
 #include <string.h>
@@ -9,6 +9,7 @@ _Static_assert(SMC_HEAD_SIZE == SMC_HOST_AT(SMC_HOSTS + 1) && SMC_RANGE_AT(SMC_R
 _Static_assert(SMC_TAGGED_DESCRIPTOR_SIZE == SMC_PLAIN_DESCRIPTOR_SIZE + SMC_TAG_SIZE, "a descriptor");
 _Static_assert(SMC_LARGEST_ANSWER == SMC_LISTING_HEADER_SIZE + SMC_RANGES * SMC_PAGE_HEADER_SIZE
                    + SMC_MOST_ELEMENTS * SMC_TAGGED_DESCRIPTOR_SIZE, "the largest answer");
+_Static_assert(SMC_LARGEST_MODE_ANSWER == UINT8_MAX, "the largest allocation of MODE SENSE");
 _Static_assert(sizeof(smc_reply) == 8, "the reply");
 
 #define GUARD 16
@@ -168,7 +169,7 @@ static void every_entry_moves(void)
                    {"smc_request_sense", smc_request_sense}, {"smc_reserve", smc_reserve},
                    {"smc_release", smc_release},           {"smc_prevent_allow", smc_prevent_allow},
                    {"smc_move_medium", smc_move_medium},   {"smc_exchange_medium", smc_exchange_medium},
-                   {"smc_read_element_status", smc_read_element_status}};
+                   {"smc_read_element_status", smc_read_element_status}, {"smc_mode_sense", smc_mode_sense}};
     for (size_t i = 0; i < sizeof entries / sizeof *entries; i++) {
         small_library();
         ended(entries[i].name, send(entries[i].to, 1, p1, 12), SMC_GOOD, 0);
@@ -226,6 +227,97 @@ static void listings(void)
             smc_reply little = smc_read_element_status(TABLES, 1, block, 12, NULL, 0, answer, cuts[i].count - 1);
             refused("P12, buffer too short", little, SMC_ANSWER_TOO_SHORT);
         }
+    }
+}
+
+/* Document 02, One: all pages of the small library, and each page by itself. */
+static const uint8_t all_pages[48] = {0x2F, 0, 0, 0,
+                                      0x1D, 0x12, 0, 1, 0, 1, 0x10, 0, 0, 4, 0, 0x10, 0, 1, 1, 0, 0, 1, 0, 0,
+                                      0x1E, 0x02, 0, 0,
+                                      0x1F, 0x12, 0x0E, 0, 0, 0x0E, 0x0E, 0x0E, 0, 0, 0, 0, 0, 0x0E, 0x0E, 0x0E, 0, 0, 0, 0};
+
+/* A page with its own header, at each allocation up to one more than it needs and at the largest; a buffer of one byte less than is returned is too short. */
+static void page_is(uint8_t page, const uint8_t *whole, uint32_t length)
+{
+    for (unsigned allocation = 0; allocation <= 255; allocation = allocation == length + 1 ? 255 : allocation + 1) {
+        const uint8_t block[6] = {SMC_MODE_SENSE, 0x08, page, 0, (uint8_t)allocation, 0};
+        const uint32_t count = allocation < length ? allocation : length;
+        small_library();
+        ended("mode", send(smc_mode_sense, 1, block, 6), SMC_GOOD, count);
+        expect(!memcmp(answer, whole, count), "mode", "other bytes");
+        expect(!memcmp(head, head_before, sizeof head_before) && !memcmp(elements, elements_before, sizeof elements_before), "mode",
+               "a table changed");
+        small_library();
+        remember();
+        ended("mode, buffer exact", smc_mode_sense(TABLES, 1, block, 6, NULL, 0, count ? answer : NULL, count), SMC_GOOD, count);
+        if (count > 0) {
+            small_library();
+            remember();
+            refused("mode, buffer too short", smc_mode_sense(TABLES, 1, block, 6, NULL, 0, answer, count - 1), SMC_ANSWER_TOO_SHORT);
+        }
+    }
+}
+
+static void mode_pages(void)
+{
+    uint8_t addresses[24] = {0x17}, geometry[8] = {0x07}, capabilities[24] = {0x17};
+    memcpy(addresses + 4, all_pages + 4, 20);
+    memcpy(geometry + 4, all_pages + 24, 4);
+    memcpy(capabilities + 4, all_pages + 28, 20);
+    page_is(SMC_MODE_ALL_PAGES, all_pages, sizeof all_pages);
+    page_is(SMC_MODE_ADDRESSES, addresses, sizeof addresses);
+    page_is(SMC_MODE_GEOMETRY, geometry, sizeof geometry);
+    page_is(SMC_MODE_CAPABILITIES, capabilities, sizeof capabilities);
+}
+
+static void mode_refusals(void)
+{
+    static const uint8_t wrong[][6] = {{0x1A, 0, 0x7F, 0, 255, 0}, {0x1A, 0, 0xBF, 0, 255, 0}, {0x1A, 0, 0xDD, 0, 255, 0},
+                                       {0x1A, 0, 0x00, 0, 255, 0}, {0x1A, 0, 0x1C, 0, 255, 0}, {0x1A, 0, 0x20, 0, 0, 0},
+                                       {0x1A, 0, 0x3E, 0, 255, 0}, {0x1A, 0x10, 0x3F, 0, 255, 0}, {0x1A, 0, 0x3F, 1, 255, 0},
+                                       {0x1A, 0, 0x3F, 0, 255, 1}};
+    for (size_t i = 0; i < sizeof wrong / sizeof *wrong; i++) {
+        small_library();
+        ended("mode, a fault", send(smc_mode_sense, 1, wrong[i], 6), SMC_CHECK_CONDITION, 0);
+        sense_is("mode, a fault", 1, 5, 0x24, 0x00);
+        remember();
+        refused("mode, parameters", smc_mode_sense(TABLES, 1, wrong[i], 6, blank, 1, answer, 512), SMC_PARAMETER_LENGTH);
+        head[SMC_HEAD_UNIT] = 2;
+        ended("mode, unit held", send(smc_mode_sense, 1, wrong[i], 6), SMC_RESERVATION_CONFLICT, 0);
+        sense_is("mode, unit held", 1, 0, 0, 0);
+    }
+}
+
+/* Nothing but the ranges and the number of elements stands for so many transports and one shelf. */
+static void mode_of_many_transports(void)
+{
+    static uint8_t arms_head[SMC_HEAD_SIZE], arms[128 * SMC_ELEMENT_SIZE];
+    static const struct {
+        unsigned transports;
+        uint8_t page;
+        int status;
+        uint32_t count;
+    } rows[] = {{105, 0x3F, SMC_GOOD, 255}, {106, 0x3F, SMC_CHECK_CONDITION, 0}, {106, 0x1E, SMC_GOOD, 218},
+                {125, 0x1E, SMC_GOOD, 255}, {126, 0x1E, SMC_CHECK_CONDITION, 0}, {127, 0x1D, SMC_GOOD, 24},
+                {127, 0x1F, SMC_GOOD, 24}};
+    for (size_t i = 0; i < sizeof rows / sizeof *rows; i++) {
+        const uint8_t block[6] = {0x1A, 0, rows[i].page, 0, 255, 0};
+        const unsigned count = rows[i].transports;
+        small_library();
+        remember();
+        memset(arms_head, 0, sizeof arms_head);
+        put16(arms_head, 1);
+        put16(arms_head + 2, count);
+        put16(arms_head + 4, 1 + count);
+        put16(arms_head + 6, 1);
+        smc_reply reply = smc_mode_sense(arms_head, SMC_HEAD_SIZE, arms, (count + 1) * SMC_ELEMENT_SIZE, tags, 3 * SMC_TAG_SIZE,
+                                         blank, SMC_TAG_SIZE, 1, block, 6, NULL, 0, answer, 512);
+        ended("mode, many transports", reply, rows[i].status, rows[i].count);
+        expect(arms_head[SMC_HOST_AT(1)] == (rows[i].status == SMC_GOOD ? 0 : 5), "mode, many transports", "another sense");
+        if (rows[i].page == 0x1E && rows[i].count > 0)
+            expect(answer[0] == 5 + 2 * count && answer[4] == 0x1E && answer[5] == 2 * count && answer[7] == 0 && answer[216] == 0
+                       && answer[217] == 105,
+                   "mode, many transports", "other bytes");
     }
 }
 
@@ -287,6 +379,9 @@ int main(void)
     every_entry_moves();
     commands();
     listings();
+    mode_pages();
+    mode_refusals();
+    mode_of_many_transports();
     reservations();
     events();
     nothing_lent();

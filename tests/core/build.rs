@@ -13,7 +13,7 @@ const USUAL: &str = "target/staticlib/libchanger.a";
 const CRATE: &str = "changer";
 const BUILD_IT: &str = "run `rt staticlib changer` in the repository";
 
-const ENTRIES: [&str; 12] = [
+const ENTRIES: [&str; 13] = [
     "smc_command",
     "smc_test_unit_ready",
     "smc_request_sense",
@@ -23,6 +23,7 @@ const ENTRIES: [&str; 12] = [
     "smc_move_medium",
     "smc_exchange_medium",
     "smc_read_element_status",
+    "smc_mode_sense",
     "smc_import",
     "smc_export",
     "smc_reset",

@@ -6,9 +6,10 @@ use mathlib.Core.Logic.{_≢_}
 use mathlib.Core.Bool.{Bool, true, false, not}
 use mathlib.Core.List.{List}
 use lib.Dec.{eqb}
+use borrow.Author.Tests.{eqb-true}
 use Rattle.rules.specs.Choice.{when, differ}
 use Rattle.rules.specs.Tables.{Tables, attention, unit}
-use Rattle.rules.specs.Operation.{Operation, TestUnitReady, RequestSense, Reserve, Release, PreventAllow, MoveMedium, ExchangeMedium, ReadElementStatus, Unknown}
+use Rattle.rules.specs.Operation.{Operation, TestUnitReady, RequestSense, Reserve, Release, PreventAllow, MoveMedium, ExchangeMedium, ReadElementStatus, ModeSense, Unknown}
 use Rattle.rules.specs.Order.{Verdict, other, conflict, refused, InvalidField, afterAttention, afterUnit, guarded}
 use Rattle.rules.specs.Form.{fault, formed}
 use Rattle.rules.specs.Command.{admitted}
@@ -46,6 +47,7 @@ module _ (t : Tables) (h : ℕ) (v : Verdict) where
   admitted-by MoveMedium = guarded-by
   admitted-by ExchangeMedium = guarded-by
   admitted-by ReadElementStatus = guarded-by
+  admitted-by ModeSense = guarded-by
   admitted-by Unknown = refl
 
 -- attention is looked at where it is met
@@ -70,7 +72,7 @@ module _ (op : Declared) (t : Tables) (h : ℕ) (block list : List ℕ) (g : Adm
   is-pending p = go (pending (meaning op) (t .head) h) refl
     where
       at : ℕ
-      at = fault (meaning op) block list
+      at = fault (meaning op) (t .head) block list
 
       never : (b c : Bool) (at : ℕ) → Pending ≡ when b Held (when c Open (Faulty at)) → ⊥
       never true c at q = let y : _≡_ {A = ℕ} 0 1 = cc in omega arith
@@ -81,12 +83,26 @@ module _ (op : Declared) (t : Tables) (h : ℕ) (block list : List ℕ) (g : Adm
       go true e = waits (meaning op) (t .head) h e
       go false e = λ _. never (held (meaning op) (t .head) h) (eqb at 0) at (sym p ∙ is ∙ rw e refl)
 
-  pub admission-is : (rest : Verdict) → admitted (meaning op) t h (formed (meaning op) h block list rest) ≡ onAdmission t h g rest
-  unfolding admission onAdmission formed when
-  admission-is rest = admitted-by t h _ (meaning op) ∙ rw is (go (pending (meaning op) (t .head) h) refl (held (meaning op) (t .head) h) (eqb (fault (meaning op) block list) 0))
+  -- what is let through has no fault
+  pub is-open : g ≡ Open → fault (meaning op) (t .head) block list ≡ 0
+  unfolding admission when
+  is-open p = go (pending (meaning op) (t .head) h) (held (meaning op) (t .head) h) (eqb at 0) refl (sym p ∙ is)
     where
       at : ℕ
-      at = fault (meaning op) block list
+      at = fault (meaning op) (t .head) block list
+
+      go : (b c d : Bool) → eqb at 0 ≡ d → Open ≡ when b Pending (when c Held (when d Open (Faulty at))) → at ≡ 0
+      go true c d e q = absurd (let y : _≡_ {A = ℕ} 0 1 = cc in omega arith)
+      go false true d e q = absurd (let y : _≡_ {A = ℕ} 0 1 = cc in omega arith)
+      go false false true e q = eqb-true at 0 e
+      go false false false e q = absurd (let y : _≡_ {A = ℕ} 0 1 = cc in omega arith)
+
+  pub admission-is : (rest : Verdict) → admitted (meaning op) t h (formed (meaning op) t h block list rest) ≡ onAdmission t h g rest
+  unfolding admission onAdmission formed when
+  admission-is rest = admitted-by t h _ (meaning op) ∙ rw is (go (pending (meaning op) (t .head) h) refl (held (meaning op) (t .head) h) (eqb (fault (meaning op) (t .head) block list) 0))
+    where
+      at : ℕ
+      at = fault (meaning op) (t .head) block list
 
       go : (b : Bool) → pending (meaning op) (t .head) h ≡ b → (c d : Bool)
           → when b (afterAttention t h (when d rest (refused h (InvalidField at)))) (when c (conflict h) (when d rest (refused h (InvalidField at))))

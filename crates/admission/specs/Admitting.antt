@@ -6,7 +6,7 @@ use mathlib.Core.Bool.{Bool, true, false}
 use lib.Dec.{eqb}
 use Rattle.rules.specs.Choice.{when, differ}
 use Rattle.rules.specs.Tables.{Tables, unit, attention}
-use Rattle.rules.specs.Operation.{Operation, TestUnitReady, RequestSense, Reserve, Release, PreventAllow, MoveMedium, ExchangeMedium, ReadElementStatus, Unknown, operation}
+use Rattle.rules.specs.Operation.{Operation, TestUnitReady, RequestSense, Reserve, Release, PreventAllow, MoveMedium, ExchangeMedium, ReadElementStatus, ModeSense, Unknown, operation}
 use Rattle.rules.specs.Order.{Verdict, InvalidField, other, afterAttention, conflict, refused}
 use Rattle.rules.specs.Form.{fault}
 use Rattle.rules.specs.Command.{blockFits}
@@ -24,6 +24,7 @@ meaning declared.PreventAllow = PreventAllow
 meaning declared.MoveMedium = MoveMedium
 meaning declared.ExchangeMedium = ExchangeMedium
 meaning declared.ReadElementStatus = ReadElementStatus
+meaning declared.ModeSense = ModeSense
 meaning declared.Unknown = Unknown
 
 -- the operation was decoded from the block, which has its length
@@ -41,6 +42,7 @@ meetsAttention PreventAllow = true
 meetsAttention MoveMedium = true
 meetsAttention ExchangeMedium = true
 meetsAttention ReadElementStatus = true
+meetsAttention ModeSense = true
 meetsAttention Unknown = false
 
 -- "3. .. never for RELEASE, REQUEST SENSE"; step 1 comes before it
@@ -53,6 +55,7 @@ meetsUnit PreventAllow = true
 meetsUnit MoveMedium = true
 meetsUnit ExchangeMedium = true
 meetsUnit ReadElementStatus = true
+meetsUnit ModeSense = true
 meetsUnit Unknown = false
 
 unfoldable pub pending : Operation → List ℕ → ℕ → Bool
@@ -65,7 +68,7 @@ unfoldable pub admission : Declared → List ℕ → ℕ → List ℕ → List �
 admission op head h block list =
     when (pending (meaning op) head h) Pending
     (when (held (meaning op) head h) Held
-    (when (eqb (fault (meaning op) block list) 0) Open (Faulty (fault (meaning op) block list))))
+    (when (eqb (fault (meaning op) head block list) 0) Open (Faulty (fault (meaning op) head block list))))
 
 -- what a command of host h comes to by each answer, where rest is what follows step 4
 unfoldable pub onAdmission : Tables → ℕ → Admission → Verdict → Verdict

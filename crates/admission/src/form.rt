@@ -4,7 +4,8 @@ ghost use mathlib.Core.Path.{_≡_};
 ghost use mathlib.Core.List.{List};
 ghost use Prim.Native.Nat.{ℕ, _+_, _≤_};
 ghost use lib.ListN.{length};
-ghost use Rattle.rules.specs.Operation.{Reserve, ReadElementStatus};
+ghost use Rattle.rules.specs.Tables.{headSize};
+ghost use Rattle.rules.specs.Operation.{Reserve, ReadElementStatus, ModeSense};
 ghost use Rattle.rules.specs.Form.{stray as strayIn, ownFault, lower as lowerOf, fault as faultOf};
 ghost use Rattle.admission.specs.Admitting.{meaning, Fitting};
 
@@ -33,6 +34,9 @@ const EXCHANGE_MEDIUM_UNUSED: [u8; 11] = [0x1F, 0, 0, 0, 0, 0, 0, 0, 0, 0xFF, 0x
 // "byte 1 bit 4 tags, bits 0-3 type .., 2-3 start, 4-5 most elements, 7-9 allocation"
 const READ_ELEMENT_STATUS_UNUSED: [u8; 11] = [0, 0, 0, 0, 0, 0xFF, 0, 0, 0, 0xFF, 0xFF];
 
+// byte 1 bit 3 "DBD is ignored", byte 2 page control and page code, byte 4 allocation
+const MODE_SENSE_UNUSED: [u8; 5] = [0x17, 0x00, 0xFF, 0x00, 0xFF];
+
 // The lowest byte that has a bit without a use; 0 where none has.
 fn stray(block: &[u8], masks: &[u8]) -> usize
     requires { ⌜ length (now masks) + 1 ≤ length (now block) ⌝ }
@@ -52,7 +56,7 @@ fn stray(block: &[u8], masks: &[u8]) -> usize
 // RESERVE with Element 0: "list length must be 0 (else 5/24/00)"
 fn list_fault(block: &[u8], list: &[u8]) -> usize
     requires { ⌜ length (now block) ≡ 6 ⌝ }
-    ensures { λ r. ⌜ r ≡ ownFault Reserve (now (block .entry)) (now (list .entry)) ⌝ }
+    ensures { λ r. ⌜ ((head : List ℕ) → r ≡ ownFault Reserve head (now (block .entry)) (now (list .entry))) ⌝ }
 {
     if block[1] % 2 == 0 {
         if list.len() != 0 {
@@ -66,10 +70,22 @@ fn list_fault(block: &[u8], list: &[u8]) -> usize
 // "a type code above 4"
 fn type_fault(block: &[u8]) -> usize
     requires { ⌜ length (now block) ≡ 12 ⌝ }
-    ensures { λ r. ⌜ ((list : List ℕ) → r ≡ ownFault ReadElementStatus (now (block .entry)) list) ⌝ }
+    ensures { λ r. ⌜ ((head list : List ℕ) → r ≡ ownFault ReadElementStatus head (now (block .entry)) list) ⌝ }
 {
     if layout::DRIVE < block[1] % 16 {
         return 1;
+    }
+    0
+}
+
+// "other page controls and pages", and too long an answer
+fn page_fault(head: &[u8], block: &[u8]) -> usize
+    requires { ⌜ headSize ≤ length (now head) ⌝ }
+    requires { ⌜ length (now block) ≡ 6 ⌝ }
+    ensures { λ r. ⌜ ((list : List ℕ) → r ≡ ownFault ModeSense (now (head .entry)) (now (block .entry)) list) ⌝ }
+{
+    if mode::no_answer(head, block) {
+        return 2;
     }
     0
 }
@@ -91,9 +107,10 @@ fn lower(i: usize, j: usize) -> usize
 }
 
 // Where step 4 finds a fault: the lowest byte; 0 where it finds none.
-pub fn fault(op: Operation, block: &[u8], list: &[u8]) -> usize
+pub fn fault(op: Operation, head: &[u8], block: &[u8], list: &[u8]) -> usize
+    requires { ⌜ headSize ≤ length (now head) ⌝ }
     requires { ⌜ Fitting op (now block) ⌝ }
-    ensures { λ r. ⌜ r ≡ faultOf (meaning op) (now (block .entry)) (now (list .entry)) ⌝ }
+    ensures { λ r. ⌜ r ≡ faultOf (meaning op) (now (head .entry)) (now (block .entry)) (now (list .entry)) ⌝ }
 {
     match op {
         Operation::TestUnitReady => stray(block, &TEST_UNIT_READY_UNUSED),
@@ -107,6 +124,7 @@ pub fn fault(op: Operation, block: &[u8], list: &[u8]) -> usize
             stray(block, &READ_ELEMENT_STATUS_UNUSED),
             type_fault(block),
         ),
+        Operation::ModeSense => lower(stray(block, &MODE_SENSE_UNUSED), page_fault(head, block)),
         Operation::Unknown => 0,
     }
 }

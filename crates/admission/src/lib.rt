@@ -10,7 +10,7 @@ ghost use Rattle.rules.specs.Tables.{headSize, hosts};
 ghost use Rattle.rules.specs.Operation.{decoded};
 ghost use Rattle.admission.specs.Admitting.{meaning, meetsAttention, meetsUnit, pending, held, admission, Fitting};
 
-// "Eight commands", and any "Other first byte".
+// "Eight commands", MODE SENSE, and any "Other first byte".
 pub enum Operation {
     TestUnitReady,
     RequestSense,
@@ -20,6 +20,7 @@ pub enum Operation {
     MoveMedium,
     ExchangeMedium,
     ReadElementStatus,
+    ModeSense,
     Unknown,
 }
 
@@ -49,6 +50,8 @@ const EXCHANGE_MEDIUM: u8 = 0xA6;
 
 const READ_ELEMENT_STATUS: u8 = 0xB8;
 
+const MODE_SENSE: u8 = 0x1A;
+
 // The operation of a first byte.
 pub fn decode(first: u8) -> Operation
     ensures { λ r. ⌜ meaning r ≡ decoded first ⌝ }
@@ -77,6 +80,9 @@ pub fn decode(first: u8) -> Operation
     if first == READ_ELEMENT_STATUS {
         return Operation::ReadElementStatus;
     }
+    if first == MODE_SENSE {
+        return Operation::ModeSense;
+    }
     Operation::Unknown
 }
 
@@ -95,6 +101,7 @@ fn meets_attention(op: Operation) -> bool
         Operation::MoveMedium => true,
         Operation::ExchangeMedium => true,
         Operation::ReadElementStatus => true,
+        Operation::ModeSense => true,
         Operation::Unknown => false,
     }
 }
@@ -112,6 +119,7 @@ fn meets_unit(op: Operation) -> bool
         Operation::MoveMedium => true,
         Operation::ExchangeMedium => true,
         Operation::ReadElementStatus => true,
+        Operation::ModeSense => true,
         Operation::Unknown => false,
     }
 }
@@ -151,7 +159,7 @@ pub fn judge(op: Operation, head: &[u8], host: u8, block: &[u8], list: &[u8]) ->
     if held(op, head, host) {
         return Admission::Held;
     }
-    let at = form::fault(op, block, list);
+    let at = form::fault(op, head, block, list);
     if at == 0 {
         return Admission::Open;
     }

@@ -64,6 +64,7 @@ pub fn parameters_fit(op: Operation, block: &[u8], parameters: &[u8]) -> bool
         Operation::MoveMedium => n == 0,
         Operation::ExchangeMedium => n == 0,
         Operation::ReadElementStatus => n == 0,
+        Operation::ModeSense => n == 0,
         Operation::Unknown => true,
     }
 }

@@ -153,6 +153,22 @@ pub extern "C" fn smc_read_element_status<'a>(
 }
 
 #[no_mangle]
+pub extern "C" fn smc_mode_sense<'a>(
+    head: &mut [u8],
+    elements: &mut [u8],
+    tags: &'a [u8],
+    blank: &'a [u8],
+    host: u32,
+    block: &[u8],
+    parameters: &[u8],
+    answer: &mut [u8],
+) -> Reply
+    ensures { λ r. ⌜ ended r (lent (now (head .exit)) (now (elements .exit)) (others (now (tags .entry)) (now (blank .entry)))) (now (answer .exit)) ≡ command (lent (now (head .entry)) (now (elements .entry)) (others (now (tags .entry)) (now (blank .entry)))) host (now (block .entry)) (now (parameters .entry)) (now (answer .entry)) ⌝ }
+{
+    serving::serve(head, elements, tags, blank, host, block, parameters, answer)
+}
+
+#[no_mangle]
 pub extern "C" fn smc_import<'a>(
     head: &mut [u8],
     elements: &mut [u8],

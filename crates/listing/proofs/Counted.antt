@@ -20,7 +20,7 @@ use Rattle.listing.specs.declared.Tally.{Tally}
 use Rattle.pages.specs.Pages.{Labelled}
 use Rattle.listing.specs.Plan.{skips, picks, pickedOf, planned}
 use Rattle.listing.specs.Counting.{Inside, leadOf, chosenAt, fittingAt, stepOf, stepBytes, counted, added, outset, Within}
-use Rattle.pages.proofs.Lent.{put-append, put-nothing}
+use Rattle.rules.proofs.Writes.{put-append, put-nothing}
 use Rattle.pages.proofs.Descriptor.{joined-append}
 use Rattle.pages.proofs.Descriptor.{page-bytes-few, shown-length}
 use Rattle.listing.proofs.Choosing.{picked}

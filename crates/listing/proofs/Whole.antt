@@ -14,7 +14,7 @@ use Rattle.rules.specs.Order.{outcome, fits, Number, Done, GOOD}
 use Rattle.rules.specs.Listing.{header, headerOf, returned, joined, firstAddress}
 use Rattle.rules.proofs.Ladder.{when-true, when-false}
 use Rattle.rules.specs.Ranges.{total}
-use Rattle.rules.proofs.Writes.{cut-length, cut-least}
+use Rattle.rules.proofs.Writes.{put-append, cut-length, cut-least}
 use Rattle.order.specs.declared.Reply.{Reply}
 use Rattle.order.specs.Ending.{numbered, told}
 use Rattle.listing.specs.declared.Query.{Query}
@@ -23,7 +23,6 @@ use Rattle.listing.specs.Plan.{planned}
 use Rattle.listing.specs.Counting.{counted, added, outset, Within, listed, Listable, Answers}
 use Rattle.listing.proofs.Choosing.{picked, chosen-is, pages-are}
 use Rattle.listing.proofs.Counted.{counted-at, counted-number, counted-total, counted-first, counted-within}
-use Rattle.pages.proofs.Lent.{put-append}
 
 pub header-length : (first number bytes : ℕ) → length (header first number bytes) ≡ 8
 unfolding header three

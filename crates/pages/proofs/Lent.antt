@@ -1,29 +1,14 @@
 -- Parts of a list that were lent, written from their front and given back. Assumes nothing.
-use Prim.Native.Nat.{ℕ, suc, _+_, _≤_}
-use native.Mathlib.Nat.{add-zero, zero-add}
+use Prim.Native.Nat.{ℕ, _+_, _≤_}
+use native.Mathlib.Nat.{zero-add}
 use native.Mathlib.Omega.{arith}
-use mathlib.Core.Path.{_≡_, refl, sym, _∙_}
+use mathlib.Core.Path.{_≡_, sym, _∙_}
 use mathlib.Core.List.{List, [], _∷_, _++_, append-assoc, append-nil}
-use lib.ListN.{length, take, drop, set, length-take, length-drop, take-append-drop, drop-of-length-le}
+use lib.ListN.{length, take, drop, length-take, length-drop, take-append-drop, drop-of-length-le}
 use lib.Seq.{sets, sets-eq, drop-drop, drop-append-le}
 use borrow.Rule.Slice.PartMut.{putMid}
 use Rattle.rules.specs.Bytes.{put}
-use Rattle.rules.proofs.Writes.{put-length}
-
--- what is written behind what was written is one write
-sets-append : (vs l : List ℕ) (i : ℕ) (ws : List ℕ) → sets (sets l i vs) (i + length vs) ws ≡ sets l i (vs ++ ws)
-sets-append [] l i ws = rw add-zero
-sets-append (v ∷ vs) l i ws =
-    let e : i + suc (length vs) ≡ suc i + length vs = omega arith in
-    rw e (sets-append vs (set l i v) (suc i) ws)
-
-pub put-append : (l : List ℕ) (i j : ℕ) (vs ws : List ℕ) → i + length vs ≡ j → put (put l i vs) j ws ≡ put l i (vs ++ ws)
-unfolding put
-put-append l i j vs ws e = rw (← e) (sets-append vs l i ws)
-
-pub put-nothing : (l : List ℕ) (i : ℕ) → put l i [] ≡ l
-unfolding put
-put-nothing l i = refl
+use Rattle.rules.proofs.Writes.{put-length, put-append}
 
 -- what is as long as the list takes its place
 pub put-whole : (l vs : List ℕ) → length vs ≡ length l → put l 0 vs ≡ vs

@@ -14,15 +14,17 @@ use Rattle.rules.specs.Order.{Outcome, GOOD, CHECK-CONDITION, RESERVATION-CONFL
 use Rattle.rules.specs.Command.{Request, Call, Command, Import, Export, serve}
 use Rattle.rules.specs.Histories.{next, History, begun, called, imports, exports, Reply, runRequests, replies, Mixing, none, left, right, named, From, end, more, Apart}
 use Rattle.rules.specs.Small.{element, empty, loaded, elementsOf, library, quietHead, small, moveBlock, readBlock, asks, lentBuffer, refuses}
-use Rattle.rules.specs.Cases.{Case, numbers, eventNumbers, twice, laden, locked}
+use Rattle.rules.specs.Cases.{Case, numbers, eventNumbers, twice, laden, locked, addressPage, geometryPage, capabilityPage, wholeModes, modeBlock}
 use Rattle.rules.proofs.Ladder.{differ-true}
 use Rattle.promises.specs.Refusals.{Untouched, OwnBytesAlone, Kept, Reads}
+use Rattle.promises.specs.Modes.{codesOf, uncut, CutAlone}
 use Rattle.promises.specs.Demand3.{AsIfAlone}
 use Rattle.promises.specs.Sequences.{AsTheRules}
 use Rattle.promises.specs.Volumes.{standing}
 use Rattle.rules.proofs.Opened.{opened}
 use Rattle.promises.proofs.SoundStays.{sound-stays-promised}
 use Rattle.promises.proofs.Refusals.{by-number, by-status, buffer-kept, only-reads}
+use Rattle.promises.proofs.Modes.{cut-once}
 use Rattle.promises.proofs.Demand3.{demand3}
 use Rattle.promises.proofs.Sequences.{sequences}
 use Rattle.promises.proofs.Volumes.{volumes-promised, never-twice}
@@ -127,6 +129,31 @@ p12-reads = only-reads small (Command p12) (λ e. let z : _≡_ {A = ℕ} 48 0 =
 
 p12-keeps : Kept (Command p12) (serve small (Command p12))
 p12-keeps = buffer-kept small (Command p12)
+
+-- ---- MODE SENSE: all pages of the small library, whole and cut in the middle of a page
+
+modes : ℕ → Request
+modes allocation = record { host = 1; block = modeBlock 0x3F allocation; parameters = []; buffer = lentBuffer 50 }
+
+modes-are : uncut small (modes 255) ≡ wholeModes
+unfolding opened modes modeBlock wholeModes addressPage geometryPage capabilityPage
+modes-are = refl
+
+three-pages : codesOf 0x3F ≡ 0x1D ∷ 0x1E ∷ 0x1F ∷ []
+unfolding opened codesOf
+three-pages = refl
+
+whole-cut : CutAlone small (modes 255) (serve small (Command (modes 255)))
+unfolding opened modes modeBlock
+whole-cut = cut-once small (modes 255) refl refl refl
+
+five-cut : CutAlone small (modes 5) (serve small (Command (modes 5)))
+unfolding opened modes modeBlock
+five-cut = cut-once small (modes 5) refl refl refl
+
+five-counted : serve small (Command (modes 5)) .count ≡ 5
+unfolding opened modes modeBlock
+five-counted = refl
 
 -- ---- demand 3: two hosts that really move reels, in all six mixings
 

@@ -6,3 +6,4 @@ pub mod Demand3
 pub mod Sequences
 pub mod Volumes
 pub mod Listings
+pub mod Modes

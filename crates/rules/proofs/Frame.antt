@@ -14,7 +14,7 @@ use Rattle.rules.specs.Sound.{within}
 use Rattle.rules.specs.Order.{Verdict, Number, Prevented, Done, after, fits, good, check, conflict, other, heldByOther}
 use Rattle.rules.specs.Moves.{noPlace, leave, carry, moveOf, move, exchangeOf, exchange}
 use Rattle.rules.specs.Sense.{requestSense}
-use Rattle.rules.specs.Operation.{Operation, TestUnitReady, RequestSense, Reserve, Release, PreventAllow, MoveMedium, ExchangeMedium, ReadElementStatus, Unknown, operation}
+use Rattle.rules.specs.Operation.{Operation, TestUnitReady, RequestSense, Reserve, Release, PreventAllow, MoveMedium, ExchangeMedium, ReadElementStatus, ModeSense, Unknown, operation}
 use Rattle.rules.specs.Command.{Request, act, steps, judged}
 use Rattle.rules.specs.Histories.{named, namedBy, mixes, joins, Disjoint}
 use Rattle.rules.proofs.Ladder.{on, never}
@@ -232,6 +232,7 @@ act-kept PreventAllow t h block list o m = absurd (never m)
 act-kept MoveMedium t h block list o m = kept-move t h _ o _ _ _ (here _ _) (there (here _ _))
 act-kept ExchangeMedium t h block list o m = kept-exchange t h _ o _ _ _ _ (here _ _) (there (here _ _)) (there (there (here _ _)))
 act-kept ReadElementStatus t h block list o m = absurd (never m)
+act-kept ModeSense t h block list o m = absurd (never m)
 act-kept Unknown t h block list o m = absurd (never m)
 
 steps-kept : (t : Tables) (h : ℕ) (block list : List ℕ) → 1 ≤ h → mixes block ≡ true → Keeps (roster (t .head)) h (named block) (steps t h block list)

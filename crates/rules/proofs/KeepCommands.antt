@@ -1,4 +1,4 @@
--- Each of the eight commands leaves sound tables sound. Assumes nothing.
+-- Each of the commands leaves sound tables sound. Assumes nothing.
 use Prim.Native.Nat.{ℕ, zero, suc, _<_, _≤_}
 use native.Mathlib.Omega.{arith}
 use mathlib.Core.Path.{_≡_, refl, sym, ap}
@@ -13,12 +13,13 @@ use Rattle.rules.specs.Bytes.{byte, word}
 use Rattle.rules.specs.Tables.{Tables, lent, hosts, unitAt, places, volumes, unit, attention, attentionq, volume, holder, sensed, Change, Sense, Attention, HoldUnit, Prevent, Hold, Free, Under, Every, inHead, inElements, change, changes}
 use Rattle.rules.specs.Roster.{Slot, roster, placeOf}
 use Rattle.rules.specs.Sound.{within}
-use Rattle.rules.specs.Operation.{Operation, TestUnitReady, RequestSense, Reserve, Release, PreventAllow, MoveMedium, ExchangeMedium, ReadElementStatus, Unknown, operation}
+use Rattle.rules.specs.Operation.{Operation, TestUnitReady, RequestSense, Reserve, Release, PreventAllow, MoveMedium, ExchangeMedium, ReadElementStatus, ModeSense, Unknown, operation}
 use Rattle.rules.specs.Order.{Verdict, Number, Prevented, Done, InvalidOperation, fits, good, check, conflict, other, volumeOf}
 use Rattle.rules.specs.Moves.{noPlace, leave, carry, move, exchange}
 use Rattle.rules.specs.Holds.{holdsFrom, granted, releaseUnit, release, prevent, descriptors}
 use Rattle.rules.specs.Sense.{requestSense}
 use Rattle.rules.specs.Listing.{readStatus}
+use Rattle.rules.specs.Mode.{modeSense}
 use Rattle.rules.specs.Command.{Request, act, steps, judged}
 use Rattle.rules.proofs.Ladder.{on, either, any-nowhere, all-cons, all-nil, ne-differ}
 use Rattle.rules.proofs.Walks.{Refusals, Passed, Moving, Exchanging, telling, refused-by, steps-by, move-by, exchange-by, reserve-by, release-by}
@@ -77,6 +78,10 @@ module _ (t : Tables) (s : Sound t) (h : ℕ) (l : 1 ≤ h) (m : h ≤ hosts) wh
   readStatus-sound : (block : List ℕ) → Sounds t (readStatus t h block)
   unfolding readStatus changes
   readStatus-sound block = cleared
+
+  modeSense-sound : (block : List ℕ) → Sounds t (modeSense t h block)
+  unfolding modeSense changes
+  modeSense-sound block = cleared
 
   prevent-sound : (block : List ℕ) → Sounds t (prevent t h block)
   unfolding prevent good changes
@@ -197,6 +202,7 @@ module _ (t : Tables) (s : Sound t) (h : ℕ) (l : 1 ≤ h) (m : h ≤ hosts) wh
   act-sound MoveMedium block list e = move-sound t s h l m block
   act-sound ExchangeMedium block list e = exchange-sound t s h l m block
   act-sound ReadElementStatus block list e = readStatus-sound t s h l m block
+  act-sound ModeSense block list e = modeSense-sound t s h l m block
   act-sound Unknown block list e = refusals-sound t s h l m .refuses InvalidOperation
 
   steps-sound : (block parameters : List ℕ) → Sounds t (steps t h block parameters)

@@ -9,6 +9,8 @@ pub mod ElementFields
 pub mod Local
 pub mod Operations
 pub mod Walks
+pub mod Acts
+pub mod Pages
 pub mod KeepHead
 pub mod KeepElements
 pub mod Keep

@@ -10,8 +10,8 @@ use Rattle.rules.specs.Roster.{roster, placeOf}
 use Rattle.rules.specs.Order.{Verdict, other, heldByOther, volumeOf, afterAttention, afterUnit, guarded}
 use Rattle.rules.specs.Moves.{transportUsed, noTransport, noPlace, leave, carry, moveOf, move, exchangeOf, exchange}
 use Rattle.rules.specs.Sense.{tellsAttention, requestSense}
-use Rattle.rules.specs.Operation.{Operation, TestUnitReady, RequestSense, Reserve, Release, PreventAllow, MoveMedium, ExchangeMedium, ReadElementStatus, Unknown, operation}
-use Rattle.rules.specs.Form.{formed}
+use Rattle.rules.specs.Operation.{Operation, TestUnitReady, RequestSense, Reserve, Release, PreventAllow, MoveMedium, ExchangeMedium, ReadElementStatus, ModeSense, Unknown, operation}
+use Rattle.rules.specs.Form.{ownFault, fault, formed}
 use Rattle.rules.specs.Command.{Request, act, admitted, stepsOf, steps, judged}
 use Rattle.rules.specs.Histories.{named, namedBy, mixes, joins}
 use Rattle.rules.proofs.Ladder.{never}
@@ -155,15 +155,16 @@ module _ (h : ℕ) (block : List ℕ) (t u : Tables) where
       ∙ ap (λ (arm : ℕ). exchangeOf u h arm (word block 4) (word block 6) (word block 8)) (transportUsed-is h _ _ t u s (word block 2))
 
   stepsOf-is : (op : Operation) (list : List ℕ) → joins op ≡ true → Alike op → stepsOf op t h block list ≡ stepsOf op u h block list
-  unfolding stepsOf admitted act joins
+  unfolding stepsOf admitted formed fault ownFault act joins
   stepsOf-is TestUnitReady list m s = guarded-is h _ _ t u s _ _ refl
-  stepsOf-is RequestSense list m s = ap (formed RequestSense h block list) (sense-is h _ _ t u s block)
+  stepsOf-is RequestSense list m s = cc (sense-is h _ _ t u s block)
   stepsOf-is Reserve list m s = absurd (never m)
   stepsOf-is Release list m s = absurd (never m)
   stepsOf-is PreventAllow list m s = absurd (never m)
-  stepsOf-is MoveMedium list m s = guarded-is h _ _ t u s _ _ (ap (formed MoveMedium h block list) (move-is s))
-  stepsOf-is ExchangeMedium list m s = guarded-is h _ _ t u s _ _ (ap (formed ExchangeMedium h block list) (exchange-is s))
+  stepsOf-is MoveMedium list m s = guarded-is h _ _ t u s _ _ (cc (move-is s))
+  stepsOf-is ExchangeMedium list m s = guarded-is h _ _ t u s _ _ (cc (exchange-is s))
   stepsOf-is ReadElementStatus list m s = absurd (never m)
+  stepsOf-is ModeSense list m s = absurd (never m)
   stepsOf-is Unknown list m s = absurd (never m)
 
   pub steps-is : (list : List ℕ) → mixes block ≡ true → Same h (touched t block) (named block) t u → steps t h block list ≡ steps u h block list

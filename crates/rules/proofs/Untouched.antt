@@ -14,11 +14,12 @@ use Rattle.rules.specs.Bytes.{byte, put}
 use Rattle.rules.specs.Tables.{Tables, hostAt, Change, OfHead, OfElements, inHead, change, changes}
 use Rattle.rules.specs.Sound.{sound}
 use Rattle.rules.specs.Order.{Verdict, Number, Prevented, Done, Outcome, GOOD, CHECK-CONDITION, RESERVATION-CONFLICT, Cause, InvalidOperation, outcome, fits, good, check, refused, conflict}
-use Rattle.rules.specs.Operation.{Operation, TestUnitReady, RequestSense, Reserve, Release, PreventAllow, MoveMedium, ExchangeMedium, ReadElementStatus, Unknown, operation}
+use Rattle.rules.specs.Operation.{Operation, TestUnitReady, RequestSense, Reserve, Release, PreventAllow, MoveMedium, ExchangeMedium, ReadElementStatus, ModeSense, Unknown, operation}
 use Rattle.rules.specs.Moves.{move, exchange}
 use Rattle.rules.specs.Holds.{reserve, release, prevent}
 use Rattle.rules.specs.Sense.{requestSense}
 use Rattle.rules.specs.Listing.{readStatus}
+use Rattle.rules.specs.Mode.{modeSense}
 use Rattle.rules.specs.Events.{atPort, done, importing, exporting, resetting}
 use Rattle.rules.specs.Command.{Request, Call, Command, Import, Export, Reset, act, steps, judged, judge, verdict, bufferOf, serve}
 use Rattle.rules.proofs.Ladder.{on, either}
@@ -166,7 +167,7 @@ module _ (Q : ℕ → Type 0) (reads : Bool) (t : Tables) (h : ℕ) (block : Lis
   unfolding prevent
   ends-prevent = ends-good Q reads h _
 
--- the two that return bytes
+-- those that return bytes
 module _ (Q : ℕ → Type 0) (t : Tables) (h : ℕ) (block : List ℕ) where
   ends-bytes : (bytes : List ℕ) (cs : List Change) → Ends Q true h (Done GOOD bytes cs)
   ends-bytes bytes cs = record { three = λ n _. absurd (n refl); own = λ z. absurd (z refl); none = λ z. absurd (z refl); silent = λ e. cc }
@@ -179,7 +180,11 @@ module _ (Q : ℕ → Type 0) (t : Tables) (h : ℕ) (block : List ℕ) where
   unfolding readStatus
   ends-listing = ends-bytes _ _
 
--- "Only REQUEST SENSE and READ ELEMENT STATUS with GOOD return bytes"
+  ends-mode : Ends Q true h (modeSense t h block)
+  unfolding modeSense
+  ends-mode = ends-bytes _ _
+
+-- "Only REQUEST SENSE and READ ELEMENT STATUS with GOOD return bytes", and MODE SENSE since it is known
 abbrev pub reads : Operation → Bool
 reads TestUnitReady = false
 reads RequestSense = true
@@ -189,6 +194,7 @@ reads PreventAllow = false
 reads MoveMedium = false
 reads ExchangeMedium = false
 reads ReadElementStatus = true
+reads ModeSense = true
 reads Unknown = false
 
 abbrev pub reading : List ℕ → Bool
@@ -205,6 +211,7 @@ module _ (Q : ℕ → Type 0) where
   ends-act MoveMedium t h block list = ends-move Q false t h block
   ends-act ExchangeMedium t h block list = ends-exchange Q false t h block
   ends-act ReadElementStatus t h block list = ends-listing Q t h block
+  ends-act ModeSense t h block list = ends-mode Q t h block
   ends-act Unknown t h block list = ends-refusals Q false h t .refuses InvalidOperation
 
   ends-steps : (t : Tables) (h : ℕ) (block list : List ℕ) → Ends Q (reading block) h (steps t h block list)
@@ -330,7 +337,7 @@ pub status-three : (t : Tables) (r : Request) → serve t (Command r) .status �
 unfolding serve bufferOf
 status-three t r = three-outcome (reading (r .block)) (r .host) t (r .buffer) _ (command-any t r)
 
--- ---- bytes are returned with GOOD, by REQUEST SENSE and READ ELEMENT STATUS
+-- ---- bytes are returned with GOOD, by REQUEST SENSE, READ ELEMENT STATUS and MODE SENSE
 
 count-outcome : (reads : Bool) (h : ℕ) (t : Tables) (buffer : List ℕ) (v : Verdict) → Ends Any reads h v → outcome t buffer v .count ≢ 0
     → (outcome t buffer v .status ≡ GOOD) × (reads ≡ true)

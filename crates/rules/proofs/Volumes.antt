@@ -13,11 +13,12 @@ use Rattle.rules.specs.Tables.{Tables, places, ElementChange, NewStock, 
 use Rattle.rules.specs.Roster.{Slot, roster, placeOf, kindOf, port}
 use Rattle.rules.specs.Sound.{sound}
 use Rattle.rules.specs.Order.{Verdict, Number, Prevented, Done, Outcome, InvalidOperation, outcome, after, fits, good, check, conflict, volumeOf}
-use Rattle.rules.specs.Operation.{Operation, TestUnitReady, RequestSense, Reserve, Release, PreventAllow, MoveMedium, ExchangeMedium, ReadElementStatus, Unknown, operation}
+use Rattle.rules.specs.Operation.{Operation, TestUnitReady, RequestSense, Reserve, Release, PreventAllow, MoveMedium, ExchangeMedium, ReadElementStatus, ModeSense, Unknown, operation}
 use Rattle.rules.specs.Moves.{noPlace, leave, carry, moveOf, move, exchangeOf, exchange}
 use Rattle.rules.specs.Holds.{holdsFrom, granted, reserve, releaseUnit, release, prevent}
 use Rattle.rules.specs.Sense.{requestSense}
 use Rattle.rules.specs.Listing.{readStatus}
+use Rattle.rules.specs.Mode.{modeSense}
 use Rattle.rules.specs.Events.{noPort, atPort, done, importing, exporting, restartedFrom, resetting}
 use Rattle.rules.specs.Command.{Request, Call, Command, Import, Export, Reset, act, steps, judged, judge, verdict, bufferOf, serve}
 use Rattle.rules.specs.Histories.{next, History, begun, called, one, times, imported, exported, imports, exports}
@@ -111,6 +112,10 @@ module _ (w : ℕ) (t : Tables) (h : ℕ) (block : List ℕ) where
   unfolding readStatus
   even-listing = even-still w t _ (tt, tt)
 
+  even-mode : Even w t (modeSense t h block)
+  unfolding modeSense
+  even-mode = even-still w t _ (tt, tt)
+
   even-prevent : Even w t (prevent t h block)
   unfolding prevent
   even-prevent = even-good w t h _ (tt, tt)
@@ -180,6 +185,7 @@ module _ (w : ℕ) (z : w ≢ 0) (t : Tables) (s : Sound t) (h : ℕ) where
   even-act MoveMedium block list = even-moveOf _ _ _
   even-act ExchangeMedium block list = even-exchangeOf _ _ _ _
   even-act ReadElementStatus block list = even-listing w t h block
+  even-act ModeSense block list = even-mode w t h block
   even-act Unknown block list = even-refusals w t h .refuses InvalidOperation
 
   even-steps : (block list : List ℕ) → Even w t (steps t h block list)

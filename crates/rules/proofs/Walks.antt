@@ -2,18 +2,18 @@
 -- with if it holds of what is carried out, where each test above came out false. Assumes nothing.
 use Prim.Native.Nat.{ℕ, zero, suc}
 use mathlib.Core.Path.{_≡_}
-use mathlib.Core.Bool.{false}
+use mathlib.Core.Bool.{true, false}
 use mathlib.Core.List.{List, [], _∷_}
 use lib.Dec.{eqb}
 use Rattle.rules.specs.Choice.{allOf, differ, anyFrom}
 use Rattle.rules.specs.Bytes.{byte}
 use Rattle.rules.specs.Tables.{Tables, places, unit, holder, attention, attentionq, Sense, Attention, HoldUnit, Free, Under}
 use Rattle.rules.specs.Roster.{Slot, roster}
-use Rattle.rules.specs.Operation.{Operation, TestUnitReady, RequestSense, Reserve, Release, PreventAllow, MoveMedium, ExchangeMedium, ReadElementStatus, Unknown}
+use Rattle.rules.specs.Operation.{Operation, TestUnitReady, RequestSense, Reserve, Release, PreventAllow, MoveMedium, ExchangeMedium, ReadElementStatus, ModeSense, Unknown}
 use Rattle.rules.specs.Order.{Verdict, Done, CHECK-CONDITION, Cause, InvalidOperation, InvalidField, ListLength, ListField, WrongAddress, SourceEmpty, DestinationFull, good, check, refused, conflict, other, volumeOf, afterAttention, afterUnit, guarded}
 use Rattle.rules.specs.Moves.{noPlace, leave, carry, moveOf, exchangeOf}
 use Rattle.rules.specs.Holds.{faultsFrom, granted, reserveUnit, reserveElements, reserve, releaseUnit, release, descriptors}
-use Rattle.rules.specs.Form.{formed}
+use Rattle.rules.specs.Form.{fault, formed}
 use Rattle.rules.specs.Command.{act, admitted, stepsOf}
 use Rattle.rules.proofs.Ladder.{on, any-first, any-rest}
 
@@ -48,6 +48,7 @@ Passed PreventAllow t h = other h (unit (t .head)) ≡ false
 Passed MoveMedium t h = other h (unit (t .head)) ≡ false
 Passed ExchangeMedium t h = other h (unit (t .head)) ≡ false
 Passed ReadElementStatus t h = other h (unit (t .head)) ≡ false
+Passed ModeSense t h = other h (unit (t .head)) ≡ false
 Passed Unknown t h = Unit {0}
 
 -- the addresses of a MOVE that is carried out
@@ -88,15 +89,22 @@ module _ (P : Verdict → Type 0) (t : Tables) (h : ℕ) (r : Refusals P t h) wh
   admitted-by MoveMedium v p = guarded-by v p
   admitted-by ExchangeMedium v p = guarded-by v p
   admitted-by ReadElementStatus v p = guarded-by v p
+  admitted-by ModeSense v p = guarded-by v p
   admitted-by Unknown v p = p tt
 
-  formed-by : (op : Operation) (block list : List ℕ) (v : Verdict) → P v → P (formed op h block list v)
+  formed-by : (op : Operation) (block list : List ℕ) (v : Verdict) → (eqb (fault op (t .head) block list) 0 ≡ true → P v)
+      → P (formed op t h block list v)
   unfolding formed
-  formed-by op block list v p = on P _ (λ _. p) (λ _. r .refuses _)
+  formed-by op block list v p = on P _ p (λ _. r .refuses _)
+
+  -- with what steps 3 and 4 have shown
+  pub steps-shown-by : (op : Operation) (block list : List ℕ)
+      → (Passed op t h → eqb (fault op (t .head) block list) 0 ≡ true → P (act op t h block list)) → P (stepsOf op t h block list)
+  unfolding stepsOf
+  steps-shown-by op block list p = admitted-by op _ (λ m. formed-by op block list _ (p m))
 
   pub steps-by : (op : Operation) (block list : List ℕ) → (Passed op t h → P (act op t h block list)) → P (stepsOf op t h block list)
-  unfolding stepsOf
-  steps-by op block list p = admitted-by op _ (λ m. formed-by op block list _ (p m))
+  steps-by op block list p = steps-shown-by op block list (λ m _. p m)
 
   -- ---- MOVE and EXCHANGE
 

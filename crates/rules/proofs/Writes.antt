@@ -1,13 +1,19 @@
 -- Laws of `put`: what a write leaves as it was, what it puts there, and writes that may change places. Assumes nothing.
 use Prim.Native.Nat.{ℕ, zero, suc, _+_, _<_, _≤_, min}
 use native.Mathlib.Omega.{arith}
-use native.Mathlib.Nat.{not-suc-le-zero}
+use native.Mathlib.Nat.{not-suc-le-zero, add-zero}
 use mathlib.Core.Path.{_≡_, refl, ap, _∙_}
 use mathlib.Core.Logic.{_≢_}
-use mathlib.Core.List.{List, [], _∷_}
-use lib.ListN.{length, getD, set, length-set}
-use lib.Seq.{sets, length-sets, getD-set-other, getD-set-same, set-comm, set-set}
+use mathlib.Core.Bool.{Bool, true, false}
+use mathlib.Core.List.{List, [], _∷_, _++_}
+use lib.ListN.{length, take, drop, getD, set, length-set}
+use lib.Seq.{take-append-le, sets, sets-eq, length-sets, getD-set-other, getD-set-same, set-comm}
+use lib.Dec.{leb, ltb}
+use borrow.Author.Tests.{ltb-true, ltb-false, le-leb, lt-leb}
+use Rattle.rules.specs.Choice.{when}
 use Rattle.rules.specs.Bytes.{byte, put, cut}
+use Rattle.rules.specs.Tables.{Change}
+use Rattle.rules.specs.Order.{Number, Done, fits}
 
 pub put-length : (xs : List ℕ) (i : ℕ) (bs : List ℕ) → length (put xs i bs) ≡ length xs
 unfolding put
@@ -57,14 +63,26 @@ pub byte-put-same : (xs : List ℕ) (i j k : ℕ) (bs : List ℕ) → j ≡ i + 
 unfolding byte put
 byte-put-same xs i j k bs e f h = getD-sets-same bs xs i j k e f h
 
-sets-again : (cs bs xs : List ℕ) (i : ℕ) → length cs ≡ length bs → sets (sets xs i cs) i bs ≡ sets xs i bs
-sets-again [] [] xs i e = refl
-sets-again [] (b ∷ bs) xs i e = absurd (omega arith)
-sets-again (c ∷ cs) [] xs i e = absurd (omega arith)
-sets-again (c ∷ cs) (b ∷ bs) xs i e =
-    ap (λ (r : List ℕ). sets r (suc i) bs) (set-sets cs (set xs i c) i (suc i) b (λ l h. omega arith))
-    ∙ sets-again cs bs (set (set xs i c) i b) (suc i) (omega arith)
-    ∙ ap (λ (r : List ℕ). sets r (suc i) bs) (set-set xs i c b)
+-- ---- one write behind another
+
+sets-append : (vs l : List ℕ) (i : ℕ) (ws : List ℕ) → sets (sets l i vs) (i + length vs) ws ≡ sets l i (vs ++ ws)
+sets-append [] l i ws = rw add-zero
+sets-append (v ∷ vs) l i ws =
+    let e : i + suc (length vs) ≡ suc i + length vs = omega arith in
+    rw e (sets-append vs (set l i v) (suc i) ws)
+
+-- what is written behind what was written is one write
+pub put-append : (l : List ℕ) (i j : ℕ) (vs ws : List ℕ) → i + length vs ≡ j → put (put l i vs) j ws ≡ put l i (vs ++ ws)
+unfolding put
+put-append l i j vs ws e = rw (← e) (sets-append vs l i ws)
+
+pub put-nothing : (l : List ℕ) (i : ℕ) → put l i [] ≡ l
+unfolding put
+put-nothing l i = refl
+
+-- two calls that wrote one behind the other
+pub put-then : (l m n : List ℕ) (i j : ℕ) (vs ws : List ℕ) → m ≡ put l i vs → n ≡ put m j ws → i + length vs ≡ j → n ≡ put l i (vs ++ ws)
+put-then l m n i j vs ws e f g = f ∙ ap (λ (x : List ℕ). put x j ws) e ∙ put-append l i j vs ws g
 
 -- ---- answers cut at the allocation
 
@@ -75,6 +93,16 @@ cut-length zero whole = omega arith
 cut-length (suc n) [] = omega arith
 cut-length (suc n) (x ∷ xs) = omega (arith, cut-length n xs)
 
+-- an allocation that is no longer is the length
+pub cut-within : (n : ℕ) (whole : List ℕ) → n ≤ length whole → length (cut n whole) ≡ n
+cut-within n whole h = let e : length (cut n whole) ≡ min n (length whole) = cut-length n whole in omega arith
+
+-- what was written to the front, cut
+pub cut-put : (n : ℕ) (l whole : List ℕ) → length whole ≤ length l → n ≤ length whole → cut n (put l 0 whole) ≡ cut n whole
+unfolding cut put
+cut-put n l whole h k =
+    ap (take n) (sets-eq whole l 0 (omega arith)) ∙ take-append-le n whole (drop (0 + length whole) l) k
+
 -- the bytes that are there are cut as by the allocation
 pub cut-least : (allocation : ℕ) (whole : List ℕ) → cut (min allocation (length whole)) whole ≡ cut allocation whole
 unfolding cut
@@ -82,3 +110,18 @@ cut-least zero whole = let e : min 0 (length whole) ≡ 0 = omega arith in rw e 
 cut-least (suc n) [] = let e : min (suc n) 0 ≡ 0 = omega arith in rw e refl
 cut-least (suc n) (x ∷ xs) =
     let e : min (suc n) (suc (length xs)) ≡ suc (min n (length xs)) = omega arith in rw e (ap (λ (ys : List ℕ). x ∷ ys) (cut-least n xs))
+
+-- house number 5, for an answer that is cut
+
+test-turned : {A : Type 0} (a b : ℕ) (x y : A) → when (leb a b) x y ≡ when (ltb b a) y x
+unfolding when
+test-turned a b x y = go (ltb b a) refl
+  where
+    go : (c : Bool) → ltb b a ≡ c → when (leb a b) x y ≡ when c y x
+    go true e = rw (lt-leb a b (ltb-true b a e))
+    go false e = rw (le-leb a b (ltb-false b a e))
+
+pub fits-cut : (answer : List ℕ) (n status : ℕ) (whole : List ℕ) (cs : List Change)
+    → fits answer (Done status (cut n whole) cs) ≡ when (ltb (length answer) (min n (length whole))) (Number 5) (Done status (cut n whole) cs)
+unfolding fits
+fits-cut answer n status whole cs = rw (cut-length n whole) (test-turned (min n (length whole)) (length answer) _ _)

@@ -10,7 +10,7 @@ use Rattle.rules.specs.Bytes.{high, low}
 use Rattle.rules.specs.Tables.{Tables, row}
 use Rattle.rules.specs.Order.{Outcome}
 use Rattle.rules.specs.Command.{Call, Import, Export, Reset, serve}
-use Rattle.rules.specs.Small.{quiet, senses, awaits, headOf, element, empty, loaded, elementsOf, library, quietHead, smallElements, small, moveBlock, exchangeBlock, readBlock, reserveBlock, naming, sends, asks, lentBuffer, ends, checks, refuses}
+use Rattle.rules.specs.Small.{Host, hostBytes, quiet, senses, awaits, headOf, element, empty, loaded, elementsOf, library, quietHead, smallElements, small, moveBlock, exchangeBlock, readBlock, reserveBlock, naming, sends, asks, lentBuffer, ends, checks, refuses}
 
 pub data Name : Type 0 where
   P1 : Name
@@ -57,6 +57,13 @@ pub data Name : Type 0 where
   RELEASE-id : Name
   export-takes-away : Name
   reset-frees-all : Name
+  MODE-SENSE-all : Name
+  MODE-SENSE-cut-5 : Name
+  MODE-SENSE-page-control : Name
+  MODE-SENSE-other-page : Name
+  MODE-SENSE-unit-of-another-host : Name
+  MODE-SENSE-too-long : Name
+  MODE-SENSE-longest : Name
 
 pub record Case : Type 0 where
   pub name : Name
@@ -328,9 +335,80 @@ eventCases =
     }
     ∷ []
 
+-- ---- MODE SENSE: 001, tables 32 to 35, on the small library
+
+-- first address and number of each type
+unfoldable pub addressPage : List ℕ
+addressPage =
+    0x1D ∷ 0x12 ∷ 0x00 ∷ 0x01 ∷ 0x00 ∷ 0x01 ∷ 0x10 ∷ 0x00 ∷ 0x00 ∷ 0x04 ∷ 0x00 ∷ 0x10 ∷ 0x00 ∷ 0x01 ∷ 0x01 ∷ 0x00 ∷ 0x00 ∷ 0x01 ∷ 0x00 ∷ 0x00 ∷ []
+
+unfoldable pub geometryPage : List ℕ
+geometryPage = 0x1E ∷ 0x02 ∷ 0x00 ∷ 0x00 ∷ []
+
+unfoldable pub capabilityPage : List ℕ
+capabilityPage =
+    0x1F ∷ 0x12 ∷ 0x0E ∷ 0x00 ∷ 0x00 ∷ 0x0E ∷ 0x0E ∷ 0x0E ∷ 0x00 ∷ 0x00 ∷ 0x00 ∷ 0x00 ∷ 0x00 ∷ 0x0E ∷ 0x0E ∷ 0x0E ∷ 0x00 ∷ 0x00 ∷ 0x00 ∷ 0x00 ∷ []
+
+-- the header, and the three by rising code
+unfoldable pub wholeModes : List ℕ
+wholeModes = 0x2F ∷ 0x00 ∷ 0x00 ∷ 0x00 ∷ addressPage ++ geometryPage ++ capabilityPage
+
+-- with DBD, which is ignored: byte 2 (page control and page code), allocation
+unfoldable pub modeBlock : ℕ → ℕ → List ℕ
+modeBlock page allocation = 0x1A ∷ 0x08 ∷ page ∷ 0x00 ∷ allocation ∷ 0x00 ∷ []
+
+unfoldable pub modeCases : List Case
+modeCases =
+    record {
+      name = MODE-SENSE-all;
+      on = small;
+      call = sends 1 (modeBlock 0x3F 255) [] (lentBuffer 50);
+      gives = ends 0x00 48 quietHead smallElements (wholeModes ++ lentBuffer 2);
+    }
+    ∷ record {
+      name = MODE-SENSE-cut-5;
+      on = small;
+      call = sends 1 (modeBlock 0x3F 5) [] (lentBuffer 6);
+      gives = ends 0x00 5 quietHead smallElements (0x2F ∷ 0x00 ∷ 0x00 ∷ 0x00 ∷ 0x1D ∷ 0xEE ∷ []);
+    }
+    ∷ record { name = MODE-SENSE-page-control; on = small; call = asks (modeBlock 0x7F 0); gives = checks 5 0x24 0x00 }
+    ∷ record { name = MODE-SENSE-other-page; on = small; call = asks (modeBlock 0x1C 0); gives = checks 5 0x24 0x00 }
+    ∷ record {
+      name = MODE-SENSE-unit-of-another-host;
+      on = library (headOf 2 0 quiet quiet quiet) smallElements;
+      call = asks (modeBlock 0x7F 0);
+      gives = ends 0x18 0 (headOf 2 0 quiet quiet quiet) smallElements [];
+    }
+    ∷ []
+
+-- 106 transports, and nothing else but a shelf
+unfoldable pub armsHead : Host → List ℕ
+armsHead one =
+    0x00 ∷ 0x01 ∷ 0 ∷ 106 ∷ 0x10 ∷ 0x00 ∷ 0 ∷ 1 ∷ 0 ∷ 0 ∷ 0 ∷ 0 ∷ 0 ∷ 0 ∷ 0 ∷ 0 ∷ 0 ∷ 0 ∷ hostBytes one ++ replicate 35 0
+
+unfoldable pub armsElements : List ℕ
+armsElements = replicate 856 0
+
+-- 3Fh has 258 bytes before cutting, 1Eh alone 218
+unfoldable pub longCases : List Case
+longCases =
+    record {
+      name = MODE-SENSE-too-long;
+      on = library (armsHead quiet) armsElements;
+      call = asks (modeBlock 0x3F 0);
+      gives = ends 0x02 0 (armsHead (senses 5 0x24 0x00)) armsElements [];
+    }
+    ∷ record {
+      name = MODE-SENSE-longest;
+      on = library (armsHead quiet) armsElements;
+      call = sends 1 (modeBlock 0x1E 8) [] (lentBuffer 9);
+      gives = ends 0x00 8 (armsHead quiet) armsElements (217 ∷ 0x00 ∷ 0x00 ∷ 0x00 ∷ 0x1E ∷ 212 ∷ 0x00 ∷ 0x00 ∷ 0xEE ∷ []);
+    }
+    ∷ []
+
 -- "P1 to P12 are one table", with the rows above
 unfoldable pub cases : List Case
-cases = moves ++ exchanges ++ cuts ++ readAll ++ shipped ++ numbers ++ eventNumbers ++ stepCases ++ holdCases ++ eventCases
+cases = moves ++ exchanges ++ cuts ++ readAll ++ shipped ++ numbers ++ eventNumbers ++ stepCases ++ holdCases ++ eventCases ++ modeCases ++ longCases
 
 -- ---- the test over all rows: the names of those whose outcome is another
 

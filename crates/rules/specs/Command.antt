@@ -8,12 +8,13 @@ use Rattle.rules.specs.Choice.{when, anyOf}
 use Rattle.rules.specs.Bytes.{byte, word}
 use Rattle.rules.specs.Tables.{Tables, hosts}
 use Rattle.rules.specs.Sound.{sound, within}
-use Rattle.rules.specs.Operation.{Operation, TestUnitReady, RequestSense, Reserve, Release, PreventAllow, MoveMedium, ExchangeMedium, ReadElementStatus, Unknown, operation}
+use Rattle.rules.specs.Operation.{Operation, TestUnitReady, RequestSense, Reserve, Release, PreventAllow, MoveMedium, ExchangeMedium, ReadElementStatus, ModeSense, Unknown, operation}
 use Rattle.rules.specs.Order.{Verdict, Number, Outcome, InvalidOperation, outcome, fits, good, refused, afterAttention, guarded}
 use Rattle.rules.specs.Moves.{move, exchange}
 use Rattle.rules.specs.Holds.{reserve, release, prevent}
 use Rattle.rules.specs.Sense.{requestSense}
 use Rattle.rules.specs.Listing.{readStatus}
+use Rattle.rules.specs.Mode.{modeSense}
 use Rattle.rules.specs.Form.{formed}
 use Rattle.rules.specs.Events.{importing, exporting, resetting}
 
@@ -35,6 +36,7 @@ act PreventAllow t h block list = prevent t h block
 act MoveMedium t h block list = move t h block
 act ExchangeMedium t h block list = exchange t h block
 act ReadElementStatus t h block list = readStatus t h block
+act ModeSense t h block list = modeSense t h block
 -- "1. Other first byte: 5/20/00."
 act Unknown t h block list = refused h InvalidOperation
 
@@ -48,11 +50,12 @@ admitted PreventAllow t h rest = guarded t h rest
 admitted MoveMedium t h rest = guarded t h rest
 admitted ExchangeMedium t h rest = guarded t h rest
 admitted ReadElementStatus t h rest = guarded t h rest
+admitted ModeSense t h rest = guarded t h rest
 admitted Unknown t h rest = rest
 
 -- steps 1 to 8
 unfoldable pub stepsOf : Operation → Tables → ℕ → List ℕ → List ℕ → Verdict
-stepsOf op t h block list = admitted op t h (formed op h block list (act op t h block list))
+stepsOf op t h block list = admitted op t h (formed op t h block list (act op t h block list))
 
 unfoldable pub steps : Tables → ℕ → List ℕ → List ℕ → Verdict
 steps t h block list = stepsOf (operation block) t h block list
@@ -81,6 +84,7 @@ wanted PreventAllow block n = eqb n 0
 wanted MoveMedium block n = eqb n 0
 wanted ExchangeMedium block n = eqb n 0
 wanted ReadElementStatus block n = eqb n 0
+wanted ModeSense block n = eqb n 0
 wanted Unknown block n = true
 
 unfoldable pub parametersFit : List ℕ → List ℕ → Bool

@@ -7,11 +7,13 @@ use lib.Bits.{bitAnd}
 use lib.Dec.{eqb, leb, ltb}
 use Rattle.rules.specs.Choice.{when, allOf, differ}
 use Rattle.rules.specs.Bytes.{byte}
+use Rattle.rules.specs.Tables.{Tables}
 use Rattle.rules.specs.Roster.{drive}
-use Rattle.rules.specs.Operation.{Operation, TestUnitReady, RequestSense, Reserve, Release, PreventAllow, MoveMedium, ExchangeMedium, ReadElementStatus, Unknown}
+use Rattle.rules.specs.Operation.{Operation, TestUnitReady, RequestSense, Reserve, Release, PreventAllow, MoveMedium, ExchangeMedium, ReadElementStatus, ModeSense, Unknown}
 use Rattle.rules.specs.Order.{Verdict, InvalidField, refused}
 use Rattle.rules.specs.Holds.{ofUnit}
 use Rattle.rules.specs.Listing.{typeCode}
+use Rattle.rules.specs.Mode.{noAnswer}
 
 -- the bits without a use of each byte, from byte 1 on
 unfoldable pub unused : Operation → List ℕ
@@ -30,6 +32,8 @@ unused MoveMedium = 0x1F ∷ 0x00 ∷ 0x00 ∷ 0x00 ∷ 0x00 ∷ 0x00 ∷ 0x00 �
 unused ExchangeMedium = 0x1F ∷ 0x00 ∷ 0x00 ∷ 0x00 ∷ 0x00 ∷ 0x00 ∷ 0x00 ∷ 0x00 ∷ 0x00 ∷ 0xFF ∷ 0xFF ∷ []
 -- "byte 1 bit 4 tags, bits 0-3 type .., 2-3 start, 4-5 most elements, 7-9 allocation"
 unused ReadElementStatus = 0x00 ∷ 0x00 ∷ 0x00 ∷ 0x00 ∷ 0x00 ∷ 0xFF ∷ 0x00 ∷ 0x00 ∷ 0x00 ∷ 0xFF ∷ 0xFF ∷ []
+-- byte 1 bit 3 "DBD is ignored", byte 2 page control and page code, byte 4 allocation
+unused ModeSense = 0x17 ∷ 0x00 ∷ 0xFF ∷ 0x00 ∷ 0xFF ∷ []
 unused Unknown = []
 
 -- the lowest byte, from byte i on, that has a bit without a use; 0 where none has
@@ -40,26 +44,29 @@ strayFrom (m ∷ ms) block i = when (eqb (bitAnd (byte block i) m) 0) (strayFrom
 unfoldable pub stray : List ℕ → List ℕ → ℕ
 stray masks block = strayFrom masks block 1
 
--- a fault of the command's own, at its byte; 0 where there is none. "a type code above 4"; RESERVE with Element 0: "list length must be 0 (else 5/24/00)"
-unfoldable pub ownFault : Operation → List ℕ → List ℕ → ℕ
-ownFault TestUnitReady block list = 0
-ownFault RequestSense block list = 0
-ownFault Reserve block list = when (allOf (ofUnit block ∷ differ (length list) 0 ∷ [])) 3 0
-ownFault Release block list = 0
-ownFault PreventAllow block list = 0
-ownFault MoveMedium block list = 0
-ownFault ExchangeMedium block list = 0
-ownFault ReadElementStatus block list = when (ltb drive (typeCode block)) 1 0
-ownFault Unknown block list = 0
+-- a fault of the command's own, at its byte; 0 where there is none. "a type code above 4"; RESERVE with Element 0: "list length must be 0 (else 5/24/00)";
+-- MODE SENSE: "other page controls and pages give 5/24/00", and so does too long an answer
+unfoldable pub ownFault : Operation → List ℕ → List ℕ → List ℕ → ℕ
+ownFault TestUnitReady head block list = 0
+ownFault RequestSense head block list = 0
+ownFault Reserve head block list = when (allOf (ofUnit block ∷ differ (length list) 0 ∷ [])) 3 0
+ownFault Release head block list = 0
+ownFault PreventAllow head block list = 0
+ownFault MoveMedium head block list = 0
+ownFault ExchangeMedium head block list = 0
+ownFault ReadElementStatus head block list = when (ltb drive (typeCode block)) 1 0
+ownFault ModeSense head block list = when (noAnswer head block) 2 0
+ownFault Unknown head block list = 0
 
 -- the lower of two bytes at fault, 0 being none
 unfoldable pub lower : ℕ → ℕ → ℕ
 lower i j = when (eqb i 0) j (when (eqb j 0) i (when (leb i j) i j))
 
 -- where step 4 finds a fault: the lowest byte; 0 where it finds none
-unfoldable pub fault : Operation → List ℕ → List ℕ → ℕ
-fault op block list = lower (stray (unused op) block) (ownFault op block list)
+unfoldable pub fault : Operation → List ℕ → List ℕ → List ℕ → ℕ
+fault op head block list = lower (stray (unused op) block) (ownFault op head block list)
 
 -- step 4, then the rest
-unfoldable pub formed : Operation → ℕ → List ℕ → List ℕ → Verdict → Verdict
-formed op h block list rest = when (eqb (fault op block list) 0) rest (refused h (InvalidField (fault op block list)))
+unfoldable pub formed : Operation → Tables → ℕ → List ℕ → List ℕ → Verdict → Verdict
+formed op t h block list rest =
+    when (eqb (fault op (t .head) block list) 0) rest (refused h (InvalidField (fault op (t .head) block list)))

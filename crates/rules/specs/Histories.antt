@@ -10,7 +10,7 @@ use Rattle.rules.specs.Bytes.{word}
 use Rattle.rules.specs.Tables.{Tables, volume}
 use Rattle.rules.specs.Order.{Outcome, after, volumeOf}
 use Rattle.rules.specs.Command.{Request, Call, Command, Import, Export, Reset, verdict, serve}
-use Rattle.rules.specs.Operation.{Operation, TestUnitReady, RequestSense, Reserve, Release, PreventAllow, MoveMedium, ExchangeMedium, ReadElementStatus, Unknown, operation}
+use Rattle.rules.specs.Operation.{Operation, TestUnitReady, RequestSense, Reserve, Release, PreventAllow, MoveMedium, ExchangeMedium, ReadElementStatus, ModeSense, Unknown, operation}
 
 -- ---- calls one after the other, by the rules
 
@@ -106,6 +106,7 @@ joins PreventAllow = false
 joins MoveMedium = true
 joins ExchangeMedium = true
 joins ReadElementStatus = false
+joins ModeSense = false
 joins Unknown = false
 
 unfoldable pub mixes : List ℕ → Bool
@@ -121,6 +122,7 @@ namedBy PreventAllow block = []
 namedBy MoveMedium block = word block 4 ∷ word block 6 ∷ []
 namedBy ExchangeMedium block = word block 4 ∷ word block 6 ∷ word block 8 ∷ []
 namedBy ReadElementStatus block = []
+namedBy ModeSense block = []
 namedBy Unknown block = []
 
 unfoldable pub named : List ℕ → List ℕ

@@ -10,6 +10,7 @@ pub mod Moves
 pub mod Holds
 pub mod Sense
 pub mod Listing
+pub mod Mode
 pub mod Form
 pub mod Events
 pub mod Command

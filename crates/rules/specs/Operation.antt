@@ -6,7 +6,7 @@ use Rattle.rules.specs.Choice.{when}
 use Rattle.rules.specs.Bytes.{byte}
 
 -- "Eight commands: TEST UNIT READY 00h, REQUEST SENSE 03h, RESERVE 16h, RELEASE 17h, PREVENT ALLOW 1Eh, MOVE MEDIUM A5h, EXCHANGE MEDIUM A6h,
--- READ ELEMENT STATUS B8h"; `Unknown` is any "Other first byte"
+-- READ ELEMENT STATUS B8h"; "Backup hosts want MODE SENSE 1Ah"; `Unknown` is any "Other first byte"
 pub data Operation : Type 0 where
   TestUnitReady : Operation
   RequestSense : Operation
@@ -16,6 +16,7 @@ pub data Operation : Type 0 where
   MoveMedium : Operation
   ExchangeMedium : Operation
   ReadElementStatus : Operation
+  ModeSense : Operation
   Unknown : Operation
 
 abbrev pub TEST-UNIT-READY : ℕ
@@ -42,6 +43,9 @@ EXCHANGE-MEDIUM = 0xA6
 abbrev pub READ-ELEMENT-STATUS : ℕ
 READ-ELEMENT-STATUS = 0xB8
 
+abbrev pub MODE-SENSE : ℕ
+MODE-SENSE = 0x1A
+
 -- the operation of a first byte: the one place where it is decoded
 unfoldable pub decoded : ℕ → Operation
 decoded first =
@@ -52,7 +56,8 @@ decoded first =
     (when (eqb first PREVENT-ALLOW) PreventAllow
     (when (eqb first MOVE-MEDIUM) MoveMedium
     (when (eqb first EXCHANGE-MEDIUM) ExchangeMedium
-    (when (eqb first READ-ELEMENT-STATUS) ReadElementStatus Unknown)))))))
+    (when (eqb first READ-ELEMENT-STATUS) ReadElementStatus
+    (when (eqb first MODE-SENSE) ModeSense Unknown))))))))
 
 unfoldable pub operation : List ℕ → Operation
 operation block = decoded (byte block 0)

@@ -5,15 +5,15 @@ use mathlib.Core.Path.{_≡_, refl, sym, ap, _∙_}
 use mathlib.Core.Bool.{Bool, true, false}
 use mathlib.Core.List.{List, [], _∷_}
 use lib.ListN.{length}
-use lib.Dec.{leb, ltb}
-use borrow.Author.Tests.{ltb-true, ltb-false, le-leb, lt-leb}
+use lib.Dec.{ltb}
 use Rattle.rules.proofs.Ladder.{when-of}
 use Rattle.rules.specs.Choice.{when}
 use Rattle.rules.specs.Bytes.{put, cut}
-use Rattle.rules.specs.Tables.{Tables, HeadChange, Change, OfHead, changes, change, inHead, lent}
+use Rattle.rules.specs.Tables.{Tables, HeadChange, Change, OfHead, inHead, lent}
 use Rattle.rules.specs.Order.{Outcome, Done, Number, GOOD, outcome, fits}
 use Rattle.rules.specs.Sense.{told, requestSense}
-use Rattle.rules.proofs.Writes.{cut-length, cut-least}
+use Rattle.rules.proofs.Writes.{cut-least, fits-cut}
+use Rattle.order.proofs.Ends.{cut-ends}
 use Rattle.order.specs.declared.Reply.{Reply}
 use Rattle.order.specs.Ending.{ended, told as toldOf}
 use Rattle.sense.specs.declared.Ruling.{Ruling}
@@ -24,30 +24,18 @@ use Rattle.sense.specs.Judged.{whole, meaning, senseBy}
 pub least-most : (n m : ℕ) → min n m ≤ m
 least-most n m = omega arith
 
--- the count that is told is the number of bytes
-pub cut-within : (n : ℕ) (xs : List ℕ) → n ≤ length xs → length (cut n xs) ≡ n
-cut-within n xs h = let e : length (cut n xs) ≡ min n (length xs) = cut-length n xs in omega arith
-
-told-length : (n k a q : ℕ) → n ≤ whole → length (cut n (told k a q)) ≡ n
-unfolding told
-told-length n k a q h = cut-within n (told k a q) h
-
 -- so many bytes as the allocation, or all of them
 told-first : (n k a q : ℕ) → cut (min n whole) (told k a q) ≡ cut n (told k a q)
 unfolding told
 told-first n k a q = cut-least n (told k a q)
-
-told-counted : (n k a q : ℕ) → length (cut n (told k a q)) ≡ min n whole
-unfolding told
-told-counted n k a q = cut-length n (told k a q)
 
 -- ---- the bytes are told and one change is made
 
 pub tells : (t : Tables) (buffer head′ buffer′ : List ℕ) (r : Reply) (n k a q : ℕ) (c : HeadChange) → n ≤ whole → r ≡ toldOf GOOD n
     → buffer′ ≡ put buffer 0 (cut n (told k a q)) → head′ ≡ inHead c (t .head)
     → ended r (lent head′ (t .elements) (t .rest)) buffer′ ≡ outcome t buffer (Done GOOD (cut n (told k a q)) (OfHead c ∷ []))
-unfolding outcome changes change
-tells t buffer head′ buffer′ r n k a q c h is b hd = rw (is, b, hd, told-length n k a q h)
+unfolding told
+tells t buffer head′ buffer′ r n k a q c h is b hd = cut-ends t buffer head′ buffer′ r n (told k a q) c h is b hd
 
 -- ---- the answer means what the rules say
 
@@ -57,18 +45,10 @@ unfolding when
 test-first b true x y z = refl
 test-first b false x y z = refl
 
-test-turned : {A : Type 0} (a b : ℕ) (x y : A) → when (leb a b) x y ≡ when (ltb b a) y x
-unfolding when
-test-turned a b x y = go (ltb b a) refl
-  where
-    go : (c : Bool) → ltb b a ≡ c → when (leb a b) x y ≡ when c y x
-    go true e = rw (lt-leb a b (ltb-true b a e))
-    go false e = rw (le-leb a b (ltb-false b a e))
-
 module _ (answer : List ℕ) (n k a q : ℕ) (cs : List Change) where
   fits-told : fits answer (Done GOOD (cut n (told k a q)) cs) ≡ when (ltb (length answer) (min n whole)) (Number 5) (Done GOOD (cut n (told k a q)) cs)
-  unfolding fits
-  fits-told = rw (told-counted n k a q) (test-turned (min n whole) (length answer) _ _)
+  unfolding told
+  fits-told = fits-cut answer n GOOD (told k a q) cs
 
 module _ (t : Tables) (h : ℕ) (block answer : List ℕ) where
   pub sense-means : meaning (t .head) h (senseBy (t .head) h block (length answer)) ≡ fits answer (requestSense t h block)

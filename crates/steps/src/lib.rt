@@ -10,6 +10,7 @@ ghost use Prim.Native.Nat.{ℕ, _≤_};
 ghost use lib.ListN.{length};
 ghost use Rattle.rules.specs.Tables.{lent, headSize, hosts, attention, Rest};
 ghost use Rattle.rules.specs.Order.{Verdict, outcome, fits, afterAttention};
+ghost use Rattle.rules.specs.Form.{fault};
 ghost use Rattle.rules.specs.Command.{act, stepsOf};
 ghost use Rattle.order.specs.Ending.{ended, Lends};
 ghost use Rattle.admission.specs.Admitting.{meaning};
@@ -43,6 +44,7 @@ fn command<'a>(
     answer: &mut [u8],
 ) -> Reply
     requires { ⌜ Served op runs (now head) (now elements) (now tags) (now blank) host (now block) ⌝ }
+    requires { ⌜ fault (meaning op) (now head) (now block) (now parameters) ≡ 0 ⌝ }
     ensures { λ r. ⌜ ((rest : Rest) → Lends rest (now (tags .entry)) (now (blank .entry)) → ended r (lent (now (head .exit)) (now (elements .exit)) rest) (now (answer .exit)) ≡ outcome (lent (now (head .entry)) (now (elements .entry)) rest) (now (answer .entry)) (fits (now (answer .entry)) (act (meaning op) (lent (now (head .entry)) (now (elements .entry)) rest) host (now (block .entry)) (now (parameters .entry))))) ⌝ }
 {
     match op {
@@ -63,6 +65,7 @@ fn command<'a>(
             block,
             answer,
         ),
+        Operation::ModeSense => mode::mode_sense(head, host, block, answer),
         Operation::Unknown => order::refuse(head, host, Cause::InvalidOperation),
     }
 }

@@ -9,6 +9,7 @@ enum { HOSTS = 8, MOST_ELEMENTS = 512, MOST_TRANSPORTS = 127, MOST_VOLUMES = 512
 enum { UNIT = 16, MASK = 17, RECORDS = 18, RECORD_BYTES = 5 };
 enum { VOLUME = 0, SOURCE = 2, HOLDER = 4, ID = 5, MARK = 6, ZERO = 7 };
 enum { NOWHERE = MOST_ELEMENTS };
+enum { MODE_MOST_BYTES = 256 };
 
 typedef struct {
     unsigned first, count, kind, place; /* place: where its elements begin in the table */
@@ -359,6 +360,48 @@ static smc_reply read_element_status(library *l, const request *q)
     return (smc_reply){.count = returned};
 }
 
+/* What stores, moves and exchanges. */
+static const uint8_t capabilities[18] = {0x0E, 0, 0, 0x0E, 0x0E, 0x0E, 0, 0, 0, 0, 0, 0x0E, 0x0E, 0x0E};
+
+static inline uint8_t *page(uint8_t *out, uint8_t code, const uint8_t *bytes, unsigned count)
+{
+    out[0] = code;
+    out[1] = (uint8_t)count;
+    memcpy(out + SMC_MODE_PAGE_HEADER_SIZE, bytes, count);
+    return out + SMC_MODE_PAGE_HEADER_SIZE + count;
+}
+
+/* Page control and page code are one byte, so that one that is not served asks for no page. */
+static smc_reply mode_sense(library *l, const request *q)
+{
+    const uint8_t asked = q->block[2];
+    const bool all = asked == SMC_MODE_ALL_PAGES;
+    const unsigned transports = get16(l->head + 2);
+    uint8_t whole[SMC_MODE_HEADER_SIZE + 20 + SMC_MODE_PAGE_HEADER_SIZE + SMC_MODE_ARM_SIZE * MOST_TRANSPORTS + 20];
+    uint8_t addresses[18] = {0}, geometry[SMC_MODE_ARM_SIZE * MOST_TRANSPORTS] = {0}, *out = whole + SMC_MODE_HEADER_SIZE;
+    if (all || asked == SMC_MODE_ADDRESSES) {
+        memcpy(addresses, l->head, 16);
+        out = page(out, SMC_MODE_ADDRESSES, addresses, sizeof addresses);
+    }
+    if (all || asked == SMC_MODE_GEOMETRY) {
+        for (unsigned member = 0; member < transports; member++)
+            geometry[SMC_MODE_ARM_SIZE * member + 1] = (uint8_t)member;
+        out = page(out, SMC_MODE_GEOMETRY, geometry, SMC_MODE_ARM_SIZE * transports);
+    }
+    if (all || asked == SMC_MODE_CAPABILITIES)
+        out = page(out, SMC_MODE_CAPABILITIES, capabilities, sizeof capabilities);
+    const unsigned length = (unsigned)(out - whole), count = min(q->block[4], length);
+    if (length == SMC_MODE_HEADER_SIZE || length > MODE_MOST_BYTES)
+        return INVALID_FIELD;
+    if (q->answer_len < count)
+        return refused(SMC_ANSWER_TOO_SHORT);
+    memcpy(whole, (uint8_t[SMC_MODE_HEADER_SIZE]){(uint8_t)(length - 1)}, SMC_MODE_HEADER_SIZE);
+    if (count > 0)
+        memcpy(q->answer, whole, count);
+    GOOD;
+    return (smc_reply){.count = count};
+}
+
 /* ---- the order ---- */
 
 static inline bool block_fits(const uint8_t *block, size_t length)
@@ -380,7 +423,7 @@ smc_reply plain_command(SMC_TABLES, SMC_COMMAND)
         return refused(SMC_BLOCK_LENGTH);
     const uint8_t first = b[0];
     switch (first) {
-    case 0x00: case 0x03: case 0x16: case 0x17: case 0x1E: case 0xA5: case 0xA6: case 0xB8:
+    case 0x00: case 0x03: case 0x16: case 0x17: case 0x1A: case 0x1E: case 0xA5: case 0xA6: case 0xB8:
         if (parameters_len != (first == 0x16 ? get16(b + 3) : 0))
             return refused(SMC_PARAMETER_LENGTH);
         break;
@@ -405,6 +448,8 @@ smc_reply plain_command(SMC_TABLES, SMC_COMMAND)
         return (b[1] & 0x1E) | b[5] ? INVALID_FIELD : b[1] & 1 ? reserve_elements(l, q) : reserve_unit(l, q);
     case 0x17:
         return (b[1] & 0x1E) | b[3] | b[4] | b[5] ? INVALID_FIELD : release(l, q);
+    case 0x1A:
+        return (b[1] & 0x17) | b[3] | b[5] ? INVALID_FIELD : mode_sense(l, q);
     case 0x1E:
         return (b[1] & 0x1F) | b[2] | b[3] | (b[4] & 0xFE) | b[5] ? INVALID_FIELD : prevent_allow(l, q);
     case 0xA5:

@@ -10,7 +10,7 @@ declare_entries! {
 }
 
 static PLAIN: Entries = Entries {
-    commands: [plain_command; 9],
+    commands: [plain_command; 10],
     import: plain_import,
     export: plain_export,
     reset: plain_reset,

@@ -5,7 +5,7 @@ use std::hint::black_box;
 use core_ffi::{EmptySlices, Entries};
 use differential::call::Call;
 use differential::compare::{differences, make};
-use differential::generate::calls::{named_entry, read_block};
+use differential::generate::calls::{mode_block, named_entry, read_block};
 use differential::scene::Scene;
 use reference::{Implementation, Reference, Request, TableBytes};
 
@@ -103,6 +103,7 @@ pub fn rows(elements: u16) -> Vec<Row> {
     let back = addresses(0xA5, [shelf(1), shelf(0), 0]);
     let swap = addresses(0xA6, [shelf(0), shelf(2), shelf(0)]);
     let sense = command(vec![0x03, 0, 0, 0, 18, 0], Vec::new(), 18);
+    let pages = command(mode_block(0, 0x3F, 255), Vec::new(), 255);
     let calls = [
         ("TEST UNIT READY", vec![command(vec![0; 6], Vec::new(), 0)]),
         ("MOVE", vec![there, back]),
@@ -111,6 +112,7 @@ pub fn rows(elements: u16) -> Vec<Row> {
         ("REQUEST SENSE", vec![sense]),
         ("READ all with tags", read(0xFF_FFFF)),
         ("READ, allocation 8", read(8)),
+        ("MODE SENSE 3Fh", vec![pages]),
     ];
     let tables = library(elements);
     let row = |(name, calls)| Row {

@@ -43,7 +43,7 @@ pub type ResetEntry = entry!();
 /// One implementation of the C interface.
 pub struct Entries {
     /// In the order of [`reference::Entry::ALL`].
-    pub commands: [CommandEntry; 9],
+    pub commands: [CommandEntry; 10],
     pub import: ImportEntry,
     pub export: ExportEntry,
     pub reset: ResetEntry,
@@ -95,6 +95,7 @@ declare_entries! {
     smc_move_medium(u32, *const u8, usize, *const u8, usize, *mut u8, usize) -> Reply;
     smc_exchange_medium(u32, *const u8, usize, *const u8, usize, *mut u8, usize) -> Reply;
     smc_read_element_status(u32, *const u8, usize, *const u8, usize, *mut u8, usize) -> Reply;
+    smc_mode_sense(u32, *const u8, usize, *const u8, usize, *mut u8, usize) -> Reply;
     smc_import(u32, u32) -> Reply;
     smc_export(u32) -> Reply;
     smc_reset() -> Reply;
@@ -111,6 +112,7 @@ pub(crate) static CORE: Entries = Entries {
         smc_move_medium,
         smc_exchange_medium,
         smc_read_element_status,
+        smc_mode_sense,
     ],
     import: smc_import,
     export: smc_export,

@@ -1,4 +1,4 @@
-//! Compares implementations of document 01 over generated calls.
+//! Compares implementations of the rules over generated calls.
 
 pub mod call;
 pub mod compare;

@@ -1,5 +1,7 @@
 //! Which outcomes a run has reached, how often, and which it must reach to count.
 
+mod mode;
+
 use std::collections::BTreeMap;
 use std::fmt;
 
@@ -8,6 +10,8 @@ use reference::{check, Clause, Entry, TableBytes};
 use crate::call::Call;
 use crate::compare::Made;
 use crate::generate::calls::COMMANDS;
+
+pub use mode::{ModeCut, ModeFault};
 
 /// "512 elements in four pages, with tags"
 const LARGEST_LISTING: u32 = 26_664;
@@ -106,6 +110,9 @@ pub enum Outcome {
     Broken(Clause),
     Listing(Cut),
     Sense(Told, SenseCut),
+    /// GOOD, by page.
+    Mode(u8, ModeCut),
+    ModeRefused(ModeFault),
     Buffer(Buffer),
     Preventers(u8),
     Lowest(u8),
@@ -141,6 +148,8 @@ impl fmt::Display for Outcome {
             Outcome::Broken(clause) => format!("not sound: {clause}"),
             Outcome::Listing(cut) => format!("listing: {cut:?}"),
             Outcome::Sense(told, cut) => format!("REQUEST SENSE: {told:?}, {cut:?}"),
+            Outcome::Mode(page, cut) => format!("MODE SENSE {page:02X}h: {cut:?}"),
+            Outcome::ModeRefused(fault) => format!("MODE SENSE, refused: {fault:02X?}"),
             Outcome::Buffer(buffer) => format!("buffer: {buffer:?}"),
             Outcome::Preventers(hosts) => format!("number 7, preventers {hosts}"),
             Outcome::Lowest(host) => format!("number 7, lowest {host}"),
@@ -232,7 +241,11 @@ fn command_outcomes(
         (0x18, _) => vec![Outcome::Conflict(first)],
         (0x02, _) => {
             let sense = &made.head()[record..record + 3];
-            vec![Outcome::Check(first, [sense[0], sense[1], sense[2]])]
+            let mut reached = vec![Outcome::Check(first, [sense[0], sense[1], sense[2]])];
+            if first == First::Known(0x1A) && *sense == [5, 0x24, 0x00] {
+                reached.extend(mode::fault(before, block));
+            }
+            reached
         }
         (_, First::Known(0x03)) => {
             let told = told(&before.head[record..record + 5]);
@@ -245,6 +258,11 @@ fn command_outcomes(
             if reply.count == LARGEST_LISTING {
                 reached.push(Outcome::LargestListing);
             }
+            reached
+        }
+        (_, First::Known(0x1A)) => {
+            let mut reached = vec![Outcome::Good(first), buffer(made)];
+            reached.extend(mode::cut(before, block));
             reached
         }
         (_, First::Known(0xA5 | 0xA6)) if names_last_of_most_transports(before, block) => {
@@ -346,7 +364,7 @@ fn ends_with_a_page(returned: &[u8]) -> bool {
     page == returned.len()
 }
 
-/// The outcomes without which a run has not tried document 01.
+/// The outcomes without which a run has not tried the rules.
 pub fn required() -> Vec<Outcome> {
     let mut required = Vec::new();
     required.extend(Entry::ALL.map(Outcome::Entered));
@@ -361,6 +379,7 @@ pub fn required() -> Vec<Outcome> {
     }
     required.extend(Clause::ALL.map(Outcome::Broken));
     required.extend(required_listings());
+    required.extend(mode::required());
     required.extend((1..=8).map(Outcome::Preventers));
     required.extend((1..=8).map(Outcome::Lowest));
     required.extend(required_lengths());
@@ -394,7 +413,7 @@ fn required_numbers() -> Vec<Outcome> {
     for group in [0, 1, 2, 4, 5] {
         required.push(Outcome::NumberOf(First::UnknownOfGroup(group), 3));
     }
-    for first in [0x03, 0xB8] {
+    for first in [0x03, 0xB8, 0x1A] {
         required.push(Outcome::NumberOf(First::Known(first), 5));
     }
     for number in [0, 1, 6, 7, 8, 9] {

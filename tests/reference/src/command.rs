@@ -1,11 +1,11 @@
-//! What is common to the eight commands: house numbers 2 to 5 and the steps up to the fourth.
+//! What is common to the commands: house numbers 2 to 5 and the steps up to the fourth.
 
 use crate::bytes::{three, two};
 use crate::interface::Request;
 use crate::library::{HostNumber, Kind, Labels, Library, Sense};
 use crate::refusal::Refusal;
 use crate::rules::{Mutation, Rules};
-use crate::{element_status, moves, reservations, sense};
+use crate::{element_status, mode_sense, moves, reservations, sense};
 
 #[derive(Clone, Copy, Debug, PartialEq, Eq)]
 pub(crate) enum Command {
@@ -17,6 +17,7 @@ pub(crate) enum Command {
     MoveMedium,
     ExchangeMedium,
     ReadElementStatus,
+    ModeSense,
 }
 
 impl Command {
@@ -30,6 +31,7 @@ impl Command {
             0xA5 => Some(Command::MoveMedium),
             0xA6 => Some(Command::ExchangeMedium),
             0xB8 => Some(Command::ReadElementStatus),
+            0x1A => Some(Command::ModeSense),
             _ => None,
         }
     }
@@ -47,6 +49,7 @@ impl Command {
             Command::ReadElementStatus => {
                 &[0x1F, 0xFF, 0xFF, 0xFF, 0xFF, 0, 0xFF, 0xFF, 0xFF, 0, 0]
             }
+            Command::ModeSense => &[0x08, 0xFF, 0, 0xFF, 0],
         }
     }
 }
@@ -72,7 +75,7 @@ impl Call<'_> {
     /// How many bytes the host makes room for.
     pub(crate) fn allocation(&self) -> usize {
         match self.command() {
-            Some(Command::RequestSense) => self.block[4].into(),
+            Some(Command::RequestSense | Command::ModeSense) => self.block[4].into(),
             Some(Command::ReadElementStatus) => three(self.block, 7),
             _ => 0,
         }
@@ -212,6 +215,7 @@ fn steps(library: &mut Library, call: &Call) -> Outcome {
         Command::MoveMedium => moves::move_medium(library, call),
         Command::ExchangeMedium => moves::exchange_medium(library, call),
         Command::ReadElementStatus => Ok(element_status::read(library, call)),
+        Command::ModeSense => mode_sense::read(library, call),
     }
 }
 

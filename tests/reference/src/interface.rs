@@ -1,4 +1,4 @@
-//! What a front end and any implementation of document 01 share: the lent slices, a command's arguments,
+//! What a front end and any implementation of the rules share: the lent slices, a command's arguments,
 //! the reply, and the entries.
 
 /// How a call ended, field for field as the front end receives it.
@@ -97,10 +97,11 @@ pub enum Entry {
     MoveMedium,
     ExchangeMedium,
     ReadElementStatus,
+    ModeSense,
 }
 
 impl Entry {
-    pub const ALL: [Entry; 9] = [
+    pub const ALL: [Entry; 10] = [
         Entry::Command,
         Entry::TestUnitReady,
         Entry::RequestSense,
@@ -110,6 +111,7 @@ impl Entry {
         Entry::MoveMedium,
         Entry::ExchangeMedium,
         Entry::ReadElementStatus,
+        Entry::ModeSense,
     ];
 }
 

@@ -1,7 +1,7 @@
-//! The rules of document 01 over plain records.
+//! The rules of document 01, and request One of document 02, over plain records.
 //!
 //! The lent bytes are read into a [`library::Library`], the rules work on that, and the result is written
-//! back. It is meant to be read beside document 01 and to be compared with the command core; it is not
+//! back. It is meant to be read beside these documents and to be compared with the command core; it is not
 //! meant to be fast.
 
 mod bytes;
@@ -10,6 +10,7 @@ mod element_status;
 mod events;
 mod interface;
 pub mod library;
+mod mode_sense;
 mod moves;
 mod records;
 mod refusal;

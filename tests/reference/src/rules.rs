@@ -58,6 +58,15 @@ pub enum Mutation {
     LabelOfTheVolumeBefore,
     MarkNotShown,
 
+    // MODE SENSE.
+    ModeLengthCutToAllocation,
+    MemberNumbersFromOne,
+    CapabilitiesFirst,
+    PageControlLetThrough,
+    TooLongPagesServed,
+    TransportStores,
+    BlockDescriptorBitJudged,
+
     // Events.
     ImportOverwritesResetAttention,
     ExportTellsNoHost,
@@ -69,7 +78,7 @@ pub enum Mutation {
 impl Mutation {
     /// Every mutation but [`Mutation::NotJudged`].
     #[rustfmt::skip]
-    pub const SINGLE: [Mutation; 45] = [
+    pub const SINGLE: [Mutation; 52] = [
         Mutation::HostCutToOneByte,
         Mutation::EventAddressCutToTwoBytes,
         Mutation::ImportedVolumeCutToTwoBytes,
@@ -110,6 +119,13 @@ impl Mutation {
         Mutation::PageHeaderAlone,
         Mutation::LabelOfTheVolumeBefore,
         Mutation::MarkNotShown,
+        Mutation::ModeLengthCutToAllocation,
+        Mutation::MemberNumbersFromOne,
+        Mutation::CapabilitiesFirst,
+        Mutation::PageControlLetThrough,
+        Mutation::TooLongPagesServed,
+        Mutation::TransportStores,
+        Mutation::BlockDescriptorBitJudged,
         Mutation::ImportOverwritesResetAttention,
         Mutation::ExportTellsNoHost,
         Mutation::ImportFreesTheElement,
@@ -118,7 +134,7 @@ impl Mutation {
     ];
 }
 
-/// The rules an implementation follows: those of document 01, or those with one mistake.
+/// The rules an implementation follows: the right ones, or those with one mistake.
 #[derive(Clone, Copy, Debug, Default, PartialEq, Eq)]
 pub struct Rules {
     pub mutation: Option<Mutation>,
@@ -131,7 +147,7 @@ impl Rules {
         }
     }
 
-    /// Whether the mistake is to be made; never so under the rules of document 01.
+    /// Whether the mistake is to be made; never so under the right rules.
     pub(crate) fn broken_by(self, mutation: Mutation) -> bool {
         self.mutation == Some(mutation)
     }

@@ -39,7 +39,11 @@ returns-8 c = search ladder depth 10
 
 returns-9 : tie.Need-returns-9
 unfolding decoded meaning
-returns-9 c = search ladder depth 10
+returns-9 c = search ladder depth 11
+
+returns-10 : tie.Need-returns-10
+unfolding decoded meaning
+returns-10 c = search ladder depth 12
 
 pub decode-spec : {M : Type 1} → statement M
 decode-spec =
@@ -53,4 +57,5 @@ decode-spec =
     returns-6
     returns-7
     returns-8
-    returns-9)
+    returns-9
+    returns-10)

@@ -6,7 +6,7 @@ use Rattle.rules.specs.Choice.{when}
 use Rattle.pages.specs.Pages.{shown}
 use Rattle.tables.specs.Ranges.{meaning}
 use Rattle.listing.specs.Counting.{stepOf, stepBytes, chosenAt, fittingAt}
-use Rattle.pages.proofs.Lent.{put-nothing}
+use Rattle.rules.proofs.Writes.{put-nothing}
 use Rattle.listing.proofs.Counted.{picks-few, counts-few}
 use Rattle.listing.proofs.Fitting.{fit-is}
 use borrow.Author.Needs.{needs}

@@ -9,9 +9,9 @@ use denote.Ref.{now}
 use Rattle.rules.specs.Bytes.{put}
 use Rattle.rules.specs.Roster.{slots}
 use Rattle.rules.specs.Listing.{joined, width, descriptor}
-use Rattle.rules.proofs.Writes.{put-length}
+use Rattle.rules.proofs.Writes.{put-length, put-nothing}
 use Rattle.pages.specs.Pages.{stock, slot, descriptors}
-use Rattle.pages.proofs.Lent.{put-nothing, put-behind}
+use Rattle.pages.proofs.Lent.{put-behind}
 use Rattle.pages.proofs.Descriptor.{descriptor-length, run-length, descriptors-more}
 use Rattle.pages.proofs.describe_run.Statement.{statement}
 use Rattle.pages.proofs.describe_run.Tie as tie

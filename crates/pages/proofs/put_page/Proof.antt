@@ -13,7 +13,8 @@ use Rattle.rules.specs.Bytes.{three}
 use Rattle.rules.specs.Roster.{slots}
 use Rattle.rules.specs.Listing.{pageHeader}
 use Rattle.pages.specs.Pages.{stock, descriptors, shown}
-use Rattle.pages.proofs.Lent.{put-nothing, put-both}
+use Rattle.pages.proofs.Lent.{put-both}
+use Rattle.rules.proofs.Writes.{put-nothing}
 use Rattle.pages.proofs.Descriptor.{run-length, page-bytes-is}
 use borrow.Author.Needs.{needs}
 use Rattle.pages.proofs.put_page.Statement.{statement}

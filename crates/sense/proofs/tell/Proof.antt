@@ -3,7 +3,7 @@ use mathlib.Core.Path.{sym}
 use lib.Seq.{length-take-le}
 use Rattle.rules.specs.Bytes.{cut}
 use Rattle.rules.specs.Sense.{told}
-use Rattle.sense.proofs.Telling.{cut-within}
+use Rattle.rules.proofs.Writes.{cut-within}
 use borrow.Author.Needs.{needs}
 use Rattle.sense.proofs.tell.Statement.{statement}
 use Rattle.sense.proofs.tell.Tie as tie

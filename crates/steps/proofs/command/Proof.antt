@@ -5,6 +5,7 @@ use Rattle.rules.specs.Tables.{lent, bare}
 use Rattle.rules.specs.Command.{act}
 use Rattle.rules.proofs.Untouched.{good-fits, move-fits, exchange-fits, reserve-fits, release-fits, prevent-fits, refused-fits}
 use Rattle.rules.proofs.Rungs.{ends-as}
+use Rattle.rules.proofs.Pages.{answered}
 use Rattle.order.specs.Ending.{reason}
 use Rattle.admission.specs.Admitting.{meaning}
 use Rattle.admission.proofs.Lengths.{sized}
@@ -20,7 +21,7 @@ good-requires : tie.Need-good-requires
 good-requires c κs =
     let chosen = c .before in
     let began = chosen .before .before .before .before .before .before .before .before .before in
-    let s = began .pre in
+    let s = began .pre .0 in
     (s .suited .ready-to-move .head-length, s .host-most)
 
 enum-told-2 : tie.Need-enum-told-2
@@ -31,7 +32,7 @@ unfolding meaning
 request-sense-requires c κs =
     let chosen = c .before .before in
     let began = chosen .before .before .before .before .before .before .before .before .before in
-    let s = began .pre in
+    let s = began .pre .0 in
     (s .suited .ready-to-move .head-length, (s .host-most, sized _ _ _ (s .fitting) (chosen .enum-told2 .given .1)))
 
 enum-told-3 : tie.Need-enum-told-3
@@ -42,7 +43,7 @@ unfolding meaning
 reserve-requires c κs =
     let chosen = c .before .before in
     let began = chosen .before .before .before .before .before .before .before .before .before in
-    let s = began .pre in
+    let s = began .pre .0 in
     record {
       head-long = s .suited .ready-to-move .head-length;
       runs-are = s .suited .ready-to-move .runs-are;
@@ -59,7 +60,7 @@ unfolding meaning
 release-requires c κs =
     let chosen = c .before .before in
     let began = chosen .before .before .before .before .before .before .before .before .before in
-    let s = began .pre in
+    let s = began .pre .0 in
     (s .suited .ready-to-move .head-length, (s .host-most, sized _ _ _ (s .fitting) (chosen .enum-told4 .given .1)))
 
 enum-told-5 : tie.Need-enum-told-5
@@ -70,7 +71,7 @@ unfolding meaning
 prevent-allow-requires c κs =
     let chosen = c .before in
     let began = chosen .before .before .before .before .before .before .before .before .before in
-    let s = began .pre in
+    let s = began .pre .0 in
     (s .suited .ready-to-move .head-length, (s .host-some, (s .host-most, sized _ _ _ (s .fitting) (chosen .enum-told5 .given .1))))
 
 enum-told-6 : tie.Need-enum-told-6
@@ -81,7 +82,7 @@ unfolding meaning
 move-medium-requires c κs =
     let chosen = c .before .before in
     let began = chosen .before .before .before .before .before .before .before .before .before in
-    let s = began .pre in
+    let s = began .pre .0 in
     (s .suited .ready-to-move, (s .host-most, sized _ _ _ (s .fitting) (chosen .enum-told6 .given .1)))
 
 enum-told-7 : tie.Need-enum-told-7
@@ -92,7 +93,7 @@ unfolding meaning
 exchange-medium-requires c κs =
     let chosen = c .before .before in
     let began = chosen .before .before .before .before .before .before .before .before .before in
-    let s = began .pre in
+    let s = began .pre .0 in
     (s .suited .ready-to-move, (s .host-most, sized _ _ _ (s .fitting) (chosen .enum-told7 .given .1)))
 
 enum-told-8 : tie.Need-enum-told-8
@@ -103,17 +104,33 @@ unfolding meaning
 read-element-status-requires c κs =
     let chosen = c .before .before .before in
     let began = chosen .before .before .before .before .before .before .before .before .before in
-    let s = began .pre in
+    let s = began .pre .0 in
     s .suited .ready-to-list _ _ (s .host-most) (sized _ _ _ (s .fitting) (chosen .enum-told8 .given .1))
 
 enum-told-9 : tie.Need-enum-told-9
 enum-told-9 c = search needs
 
+mode-sense-requires : tie.Need-mode-sense-requires
+unfolding meaning
+mode-sense-requires c κs =
+    let chosen = c .before .before in
+    let began = chosen .before .before .before .before .before .before .before .before .before in
+    let s = began .pre .0 in
+    record {
+      head-long = s .suited .ready-to-move .head-length;
+      host-known = s .host-most;
+      block-long = sized _ _ _ (s .fitting) (chosen .enum-told9 .given .1);
+      answered = answered _ _ _ (rw (chosen .enum-told9 .given .1) at (began .pre .1));
+    }
+
+enum-told-10 : tie.Need-enum-told-10
+enum-told-10 c = search needs
+
 refuse-requires : tie.Need-refuse-requires
 refuse-requires c κs =
     let chosen = c .before in
     let began = chosen .before .before .before .before .before .before .before .before .before in
-    let s = began .pre in
+    let s = began .pre .0 in
     (s .suited .ready-to-move .head-length, s .host-most)
 
 same-length : tie.Need-same-length
@@ -220,12 +237,25 @@ returns-8 c =
 same-length-16 : tie.Need-same-length-16
 same-length-16 c = search needs
 
+same-length-17 : tie.Need-same-length-17
+same-length-17 c = search needs
+
 returns-9 : tie.Need-returns-9
-unfolding act meaning reason
+unfolding act meaning
 returns-9 c =
+    let called = c .before .before .before .before in
+    let chosen = called .before .before .before in
+    λ rest lends. ends-as _ _ (called .mode-sense .ensures _ rest) (acts _ _ (chosen .enum-told9 .given .1) _ _ _ _ _)
+
+same-length-18 : tie.Need-same-length-18
+same-length-18 c = search needs
+
+returns-10 : tie.Need-returns-10
+unfolding act meaning reason
+returns-10 c =
     let called = c .before .before in
     let chosen = called .before .before in
-    λ rest lends. ends-as _ _ (called .refuse .ensures _ rest _) (sym (refused-fits (lent [] [] bare) _ [] _ _) ∙ acts _ _ (chosen .enum-told9 .given .1) _ _ _ _ _)
+    λ rest lends. ends-as _ _ (called .refuse .ensures _ rest _) (sym (refused-fits (lent [] [] bare) _ [] _ _) ∙ acts _ _ (chosen .enum-told10 .given .1) _ _ _ _ _)
 
 pub command-spec : {M : Type 1} → statement M
 command-spec =
@@ -248,6 +278,8 @@ command-spec =
     enum-told-8
     read-element-status-requires
     enum-told-9
+    mode-sense-requires
+    enum-told-10
     refuse-requires
     same-length
     returns
@@ -273,4 +305,7 @@ command-spec =
     same-length-15
     returns-8
     same-length-16
-    returns-9)
+    same-length-17
+    returns-9
+    same-length-18
+    returns-10)

@@ -3,7 +3,7 @@ use mathlib.Core.List.{[]}
 use Rattle.rules.specs.Tables.{lent, bare}
 use Rattle.rules.proofs.Rungs.{ends-as}
 use Rattle.order.specs.Ending.{reason}
-use Rattle.admission.proofs.Admissions.{is-pending}
+use Rattle.admission.proofs.Admissions.{is-pending, is-open}
 use Rattle.steps.proofs.Ends.{pending-ends, held-ends, faulty-ends, open-ends}
 use borrow.Author.Needs.{needs}
 use Rattle.steps.proofs.steps.Statement.{statement}
@@ -51,9 +51,10 @@ enum-told-3 c = search needs
 
 command-requires : tie.Need-command-requires
 command-requires c κs =
-    let judged = c .before .before .before .before .before in
+    let told = c .before .before .before in
+    let judged = told .before .before in
     let began = judged .before .before .before .before .before .before .before .before .before in
-    began .pre
+    (began .pre, is-open _ (lent _ [] bare) _ _ _ _ (judged .judge .ensures) (told .enum-told3 .given .1))
 
 same-length : tie.Need-same-length
 same-length c = search needs

@@ -21,6 +21,18 @@ fn a_move_is_made_whatever_the_entry_is_called() {
 }
 
 #[test]
+fn mode_pages_are_returned_whatever_the_entry_is_called() {
+    for entry in Entry::ALL {
+        let mut library = Library::small();
+        let answered = enter(entry, &mut library, &[0x1A, 0, 0x1E, 0, 255, 0]);
+        assert_eq!(answered.reply, good(8), "{entry:?}");
+        let expected = [0x07, 0, 0, 0, 0x1E, 0x02, 0x00, 0x00];
+        assert_eq!(answered.returned(), expected, "{entry:?}");
+        assert_eq!(library, Library::small(), "{entry:?}");
+    }
+}
+
+#[test]
 fn an_unknown_first_byte_is_told_whatever_the_entry_is_called() {
     for entry in Entry::ALL {
         let mut library = Library::small();

@@ -77,7 +77,7 @@ fn number_3_comes_before_the_parameters() {
 #[test]
 fn number_4_for_parameters_of_a_command_that_has_none() {
     let read = [0xB8, 0, 0, 0, 0, 1, 0, 0, 0, 8, 0, 0];
-    let blocks: [&[u8]; 7] = [
+    let blocks: [&[u8]; 8] = [
         &TEST_UNIT_READY,
         &REQUEST_SENSE_18,
         &[0x17, 0, 0, 0, 0, 0],
@@ -85,6 +85,7 @@ fn number_4_for_parameters_of_a_command_that_has_none() {
         &move_block(0x1000, 0x0100),
         &exchange_block(0x1000, 0x1002, 0x1000),
         &read,
+        &[0x1A, 0, 0x3F, 0, 255, 0],
     ];
     for block in blocks {
         Library::small().expect_refused(1, block, &[0], 4);

@@ -1,4 +1,4 @@
-//! Document 01 against the reference and the built library. Every expected value is written out by hand.
+//! Document 01, and request One of document 02, against the reference and the built library. Every expected value is written out by hand.
 
 mod fixture;
 
@@ -6,6 +6,7 @@ mod entries;
 mod events;
 mod house_numbers;
 mod listings;
+mod mode_sense;
 mod moves;
 mod reservations;
 mod sense;

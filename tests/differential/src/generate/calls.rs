@@ -8,12 +8,15 @@ use crate::call::Call;
 use crate::random::Random;
 use crate::scene::Scene;
 
-/// The first bytes of the eight commands.
-pub const COMMANDS: [u8; 8] = [0x00, 0x03, 0x16, 0x17, 0x1E, 0xA5, 0xA6, 0xB8];
+/// The first bytes of the commands, in the order of their entries.
+pub const COMMANDS: [u8; 9] = [0x00, 0x03, 0x16, 0x17, 0x1E, 0xA5, 0xA6, 0xB8, 0x1A];
+
+/// The pages of MODE SENSE.
+pub const MODE_PAGES: [u8; 4] = [0x1D, 0x1E, 0x1F, 0x3F];
 
 /// The commands as often as [`plausible`] takes them.
-const OFTEN_MOVES: [u8; 13] = [
-    0x00, 0x03, 0x16, 0x17, 0x17, 0x1E, 0xA5, 0xA5, 0xA5, 0xA5, 0xA6, 0xA6, 0xB8,
+const OFTEN_MOVES: [u8; 14] = [
+    0x00, 0x03, 0x16, 0x17, 0x17, 0x1E, 0xA5, 0xA5, 0xA5, 0xA5, 0xA6, 0xA6, 0xB8, 0x1A,
 ];
 
 /// The entry named after the command of this first byte.
@@ -60,7 +63,7 @@ pub fn command(random: &mut Random, host: u32, block: Vec<u8>, parameters: Vec<u
     }
 }
 
-/// One of the eight commands or of the three events, with plausible fields.
+/// One of the commands or of the three events, with plausible fields.
 pub fn plausible(random: &mut Random, scene: &Scene) -> Call {
     match random.below(14) {
         0 | 1 => import(random, scene),
@@ -115,6 +118,7 @@ pub fn block(random: &mut Random, scene: &Scene, first: u8) -> (Vec<u8>, Vec<u8>
         0xA5 => (move_medium(random, scene, ignored), none),
         0xA6 => (exchange_medium(random, scene, ignored), none),
         0xB8 => (read_element_status(random, scene, ignored), none),
+        0x1A => (mode_sense(random, ignored), none),
         _ => (vec![first, ignored, 0, 0, 0, 0], none),
     }
 }
@@ -217,6 +221,26 @@ pub fn read_block(byte_1: u8, start: u16, most: u16, allocation: usize) -> Vec<u
     block.extend(&(allocation as u32).to_be_bytes()[1..]);
     block.extend([0, 0]);
     block
+}
+
+/// Mostly a page that there is, with current values.
+fn mode_sense(random: &mut Random, ignored: u8) -> Vec<u8> {
+    let descriptors = random.pick(&[0x00, 0x00, 0x08]);
+    let page = match random.below(12) {
+        0 => random.byte() & 0x3F,
+        1 => random.byte(),
+        _ => random.pick(&MODE_PAGES),
+    };
+    let allocation = match random.below(4) {
+        0 => random.byte(),
+        1 => random.byte_between(0, 50),
+        _ => 255,
+    };
+    mode_block(ignored | descriptors, page, allocation)
+}
+
+pub fn mode_block(byte_1: u8, byte_2: u8, allocation: u8) -> Vec<u8> {
+    vec![0x1A, byte_1, byte_2, 0, allocation, 0]
 }
 
 pub fn import(random: &mut Random, scene: &Scene) -> Call {

@@ -58,7 +58,7 @@ fn cut_listing(
 }
 
 /// Shorter than the bytes returned, as long, or longer.
-fn buffer_about(random: &mut Random, returned: usize) -> Vec<u8> {
+pub(super) fn buffer_about(random: &mut Random, returned: usize) -> Vec<u8> {
     let length = match random.below(5) {
         0 => returned.saturating_sub(1),
         1 => random.below(returned + 1),

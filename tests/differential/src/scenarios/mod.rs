@@ -4,6 +4,7 @@ mod blocks;
 mod cuts;
 mod events;
 mod libraries;
+mod modes;
 mod reserving;
 mod unsound;
 mod wide;
@@ -22,7 +23,7 @@ macro_rules! named {
     ($($family:ident::$name:ident),* $(,)?) => { [$((stringify!($name), $family::$name as Scenario)),*] };
 }
 
-const SCENARIOS: [(&str, Scenario); 23] = named![
+const SCENARIOS: [(&str, Scenario); 26] = named![
     libraries::small_library,
     libraries::plausible_calls,
     libraries::history,
@@ -43,6 +44,9 @@ const SCENARIOS: [(&str, Scenario); 23] = named![
     cuts::listing_cuts,
     cuts::largest_listing,
     cuts::sense_cuts,
+    modes::mode_cuts,
+    modes::mode_fields,
+    modes::many_transports,
     blocks::hosts,
     events::events_at_the_edges,
     events::preventers,

@@ -10,7 +10,7 @@ use crate::random::Random;
 pub(super) fn each_clause_broken(harness: &mut Harness, random: &mut Random, round: usize) {
     for (at, clause) in Clause::ALL.into_iter().enumerate() {
         let mut scene = faults::broken_scene(random, clause);
-        let first = calls::COMMANDS[(at + round) % 8];
+        let first = calls::COMMANDS[(at + round) % calls::COMMANDS.len()];
         let command = calls::plausible_command(random, &scene, first);
         harness.call(&mut scene.tables, &command);
         let event = match (at + round) % 3 {

@@ -18,7 +18,7 @@ slice-aggregate-stray c = search needs
 
 stray-requires : tie.Need-stray-requires
 unfolding meaning
-stray-requires c κs = omega (arith, sized _ _ _ (c .before .before .before .before .before .pre) (c .before .enum-told .given .1))
+stray-requires c κs = omega (arith, sized _ _ _ (c .before .before .before .before .before .before .pre .1) (c .before .enum-told .given .1))
 
 enum-told-2 : tie.Need-enum-told-2
 enum-told-2 c = search needs
@@ -28,7 +28,7 @@ slice-aggregate-stray-2 c = search needs
 
 stray-requires-2 : tie.Need-stray-requires-2
 unfolding meaning
-stray-requires-2 c κs = omega (arith, sized _ _ _ (c .before .before .before .before .before .pre) (c .before .enum-told2 .given .1))
+stray-requires-2 c κs = omega (arith, sized _ _ _ (c .before .before .before .before .before .before .pre .1) (c .before .enum-told2 .given .1))
 
 enum-told-3 : tie.Need-enum-told-3
 enum-told-3 c = search needs
@@ -38,11 +38,11 @@ slice-aggregate-stray-3 c = search needs
 
 stray-requires-3 : tie.Need-stray-requires-3
 unfolding meaning
-stray-requires-3 c κs = omega (arith, sized _ _ _ (c .before .before .before .before .before .pre) (c .before .enum-told3 .given .1))
+stray-requires-3 c κs = omega (arith, sized _ _ _ (c .before .before .before .before .before .before .pre .1) (c .before .enum-told3 .given .1))
 
 list-fault-requires : tie.Need-list-fault-requires
 unfolding meaning
-list-fault-requires c κs = sized _ _ _ (c .before .before .before .before .before .before .pre) (c .before .before .enum-told3 .given .1)
+list-fault-requires c κs = sized _ _ _ (c .before .before .before .before .before .before .before .pre .1) (c .before .before .enum-told3 .given .1)
 
 lower-requires : tie.Need-lower-requires
 lower-requires c κs = search needs
@@ -55,7 +55,7 @@ slice-aggregate-stray-4 c = search needs
 
 stray-requires-4 : tie.Need-stray-requires-4
 unfolding meaning
-stray-requires-4 c κs = omega (arith, sized _ _ _ (c .before .before .before .before .before .pre) (c .before .enum-told4 .given .1))
+stray-requires-4 c κs = omega (arith, sized _ _ _ (c .before .before .before .before .before .before .pre .1) (c .before .enum-told4 .given .1))
 
 enum-told-5 : tie.Need-enum-told-5
 enum-told-5 c = search needs
@@ -65,7 +65,7 @@ slice-aggregate-stray-5 c = search needs
 
 stray-requires-5 : tie.Need-stray-requires-5
 unfolding meaning
-stray-requires-5 c κs = omega (arith, sized _ _ _ (c .before .before .before .before .before .pre) (c .before .enum-told5 .given .1))
+stray-requires-5 c κs = omega (arith, sized _ _ _ (c .before .before .before .before .before .before .pre .1) (c .before .enum-told5 .given .1))
 
 enum-told-6 : tie.Need-enum-told-6
 enum-told-6 c = search needs
@@ -75,7 +75,7 @@ slice-aggregate-stray-6 c = search needs
 
 stray-requires-6 : tie.Need-stray-requires-6
 unfolding meaning
-stray-requires-6 c κs = omega (arith, sized _ _ _ (c .before .before .before .before .before .pre) (c .before .enum-told6 .given .1))
+stray-requires-6 c κs = omega (arith, sized _ _ _ (c .before .before .before .before .before .before .pre .1) (c .before .enum-told6 .given .1))
 
 enum-told-7 : tie.Need-enum-told-7
 enum-told-7 c = search needs
@@ -85,7 +85,7 @@ slice-aggregate-stray-7 c = search needs
 
 stray-requires-7 : tie.Need-stray-requires-7
 unfolding meaning
-stray-requires-7 c κs = omega (arith, sized _ _ _ (c .before .before .before .before .before .pre) (c .before .enum-told7 .given .1))
+stray-requires-7 c κs = omega (arith, sized _ _ _ (c .before .before .before .before .before .before .pre .1) (c .before .enum-told7 .given .1))
 
 enum-told-8 : tie.Need-enum-told-8
 enum-told-8 c = search needs
@@ -95,17 +95,36 @@ slice-aggregate-stray-8 c = search needs
 
 stray-requires-8 : tie.Need-stray-requires-8
 unfolding meaning
-stray-requires-8 c κs = omega (arith, sized _ _ _ (c .before .before .before .before .before .pre) (c .before .enum-told8 .given .1))
+stray-requires-8 c κs = omega (arith, sized _ _ _ (c .before .before .before .before .before .before .pre .1) (c .before .enum-told8 .given .1))
 
 type-fault-requires : tie.Need-type-fault-requires
 unfolding meaning
-type-fault-requires c κs = sized _ _ _ (c .before .before .before .before .before .before .pre) (c .before .before .enum-told8 .given .1)
+type-fault-requires c κs = sized _ _ _ (c .before .before .before .before .before .before .before .pre .1) (c .before .before .enum-told8 .given .1)
 
 lower-requires-2 : tie.Need-lower-requires-2
 lower-requires-2 c κs = search needs
 
 enum-told-9 : tie.Need-enum-told-9
 enum-told-9 c = search needs
+
+slice-aggregate-stray-9 : tie.Need-slice-aggregate-stray-9
+slice-aggregate-stray-9 c = search needs
+
+stray-requires-9 : tie.Need-stray-requires-9
+unfolding meaning
+stray-requires-9 c κs = omega (arith, sized _ _ _ (c .before .before .before .before .before .before .pre .1) (c .before .enum-told9 .given .1))
+
+page-fault-requires : tie.Need-page-fault-requires
+unfolding meaning
+page-fault-requires c κs =
+    let start = c .before .before .before .before .before .before .before in
+    (start .pre .0, sized _ _ _ (start .pre .1) (c .before .before .enum-told9 .given .1))
+
+lower-requires-3 : tie.Need-lower-requires-3
+lower-requires-3 c κs = search needs
+
+enum-told-10 : tie.Need-enum-told-10
+enum-told-10 c = search needs
 
 returns : tie.Need-returns
 unfolding fault meaning unused ownFault
@@ -117,7 +136,7 @@ returns-2 c = rw (c .before .before .enum-told2 .given .1) (c .stray2 .ensures �
 
 returns-3 : tie.Need-returns-3
 unfolding fault meaning unused
-returns-3 c = rw (c .before .before .before .before .enum-told3 .given .1) (lower-by _ _ _ _ _ (c .lower .ensures) (c .before .before .stray3 .ensures) (c .before .list-fault .ensures))
+returns-3 c = rw (c .before .before .before .before .enum-told3 .given .1) (lower-by _ _ _ _ _ (c .lower .ensures) (c .before .before .stray3 .ensures) (c .before .list-fault .ensures _))
 
 returns-4 : tie.Need-returns-4
 unfolding fault meaning unused ownFault
@@ -137,11 +156,15 @@ returns-7 c = rw (c .before .before .enum-told7 .given .1) (c .stray7 .ensures �
 
 returns-8 : tie.Need-returns-8
 unfolding fault meaning unused
-returns-8 c = rw (c .before .before .before .before .enum-told8 .given .1) (lower-by _ _ _ _ _ (c .lower2 .ensures) (c .before .before .stray8 .ensures) (c .before .type-fault .ensures _))
+returns-8 c = rw (c .before .before .before .before .enum-told8 .given .1) (lower-by _ _ _ _ _ (c .lower2 .ensures) (c .before .before .stray8 .ensures) (c .before .type-fault .ensures _ _))
 
 returns-9 : tie.Need-returns-9
+unfolding fault meaning unused
+returns-9 c = rw (c .before .before .before .before .enum-told9 .given .1) (lower-by _ _ _ _ _ (c .lower3 .ensures) (c .before .before .stray9 .ensures) (c .before .page-fault .ensures _))
+
+returns-10 : tie.Need-returns-10
 unfolding fault meaning unused ownFault stray strayFrom lower when
-returns-9 c = rw (c .enum-told9 .given .1)
+returns-10 c = rw (c .enum-told10 .given .1)
 
 pub fault-spec : {M : Type 1} → statement M
 fault-spec =
@@ -176,6 +199,11 @@ fault-spec =
     type-fault-requires
     lower-requires-2
     enum-told-9
+    slice-aggregate-stray-9
+    stray-requires-9
+    page-fault-requires
+    lower-requires-3
+    enum-told-10
     returns
     returns-2
     returns-3
@@ -184,4 +212,5 @@ fault-spec =
     returns-6
     returns-7
     returns-8
-    returns-9)
+    returns-9
+    returns-10)

@@ -12,15 +12,15 @@ shared-slice-read-if1 c = search needs
 
 returns : tie.Need-returns
 unfolding ownFault ofUnit byte
-returns c = search ladder depth 10
+returns c = λ head. search ladder depth 10
 
 returns-2 : tie.Need-returns-2
 unfolding ownFault ofUnit byte
-returns-2 c = search ladder depth 10
+returns-2 c = λ head. search ladder depth 10
 
 returns-3 : tie.Need-returns-3
 unfolding ownFault ofUnit byte
-returns-3 c = search ladder depth 10
+returns-3 c = λ head. search ladder depth 10
 
 pub list-fault-spec : {M : Type 1} → statement M
 list-fault-spec = tie.close (tie.spec shared-slice-read-if1 returns returns-2 returns-3)

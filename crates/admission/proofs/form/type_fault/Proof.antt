@@ -13,11 +13,11 @@ shared-slice-read-if1 c = search needs
 
 returns : tie.Need-returns
 unfolding ownFault typeCode byte
-returns c = λ list. lt-is _ _ _ _ _ (c .if1 .taken) refl
+returns c = λ head list. lt-is _ _ _ _ _ (c .if1 .taken) refl
 
 returns-2 : tie.Need-returns-2
 unfolding ownFault typeCode byte
-returns-2 c = λ list. lt-not _ _ _ _ _ (c .if1 .left) refl
+returns-2 c = λ head list. lt-not _ _ _ _ _ (c .if1 .left) refl
 
 pub type-fault-spec : {M : Type 1} → statement M
 type-fault-spec = tie.close (tie.spec shared-slice-read-if1 returns returns-2)

@@ -41,6 +41,9 @@ enum-told-8 c = search needs
 enum-told-9 : tie.Need-enum-told-9
 enum-told-9 c = search needs
 
+enum-told-10 : tie.Need-enum-told-10
+enum-told-10 c = search needs
+
 returns : tie.Need-returns
 unfolding wanted meaning
 returns c = rw (c .enum-told .given .1)
@@ -77,6 +80,10 @@ returns-9 : tie.Need-returns-9
 unfolding wanted meaning
 returns-9 c = rw (c .enum-told9 .given .1)
 
+returns-10 : tie.Need-returns-10
+unfolding wanted meaning
+returns-10 c = rw (c .enum-told10 .given .1)
+
 pub parameters-fit-spec : {M : Type 1} → statement M
 parameters-fit-spec =
     tie.close
@@ -92,6 +99,7 @@ parameters-fit-spec =
     enum-told-7
     enum-told-8
     enum-told-9
+    enum-told-10
     returns
     returns-2
     returns-3
@@ -100,4 +108,5 @@ parameters-fit-spec =
     returns-6
     returns-7
     returns-8
-    returns-9)
+    returns-9
+    returns-10)

@@ -1,0 +1,82 @@
+-- What is answered with GOOD was carried out: a command that ends with number 0 and GOOD has passed steps 1 to 4, and ends as `act` says. Assumes nothing.
+use Prim.Native.Nat.{ℕ}
+use native.Mathlib.Omega.{arith}
+use mathlib.Core.Path.{_≡_, refl, subst, _∙_}
+use mathlib.Core.List.{List}
+use lib.ListN.{length}
+use lib.Dec.{leb}
+use borrow.Author.Tests.{eqb-true}
+use Rattle.rules.specs.Tables.{Tables}
+use Rattle.rules.specs.Operation.{Operation, operation}
+use Rattle.rules.specs.Order.{Verdict, Number, Prevented, Done, GOOD, check, conflict, outcome, fits}
+use Rattle.rules.specs.Form.{fault}
+use Rattle.rules.specs.Command.{Request, Command, act, stepsOf, steps, judged, judge, verdict, serve}
+use Rattle.rules.proofs.Ladder.{on}
+use Rattle.rules.proofs.Walks.{telling, Refusals, refused-by, steps-shown-by}
+
+-- number 0 and GOOD
+abbrev pub Good : Verdict → Type 0
+Good (Number n) = n ≡ 0
+Good (Prevented n h) = ⊥
+Good (Done status bytes cs) = status ≡ GOOD
+
+-- what a GOOD answer shows of a command: step 4 found no fault, and the verdict is that of what follows it
+pub record Acted (op : Operation) (t : Tables) (r : Request) (v : Verdict) : Type 0 where
+  pub no-fault : fault op (t .head) (r .block) (r .parameters) ≡ 0
+  pub acts : v ≡ act op t (r .host) (r .block) (r .parameters)
+
+abbrev IfGood : Operation → Tables → Request → Verdict → Type 0
+IfGood op t r v = Good v → Acted op t r v
+
+module _ (op : Operation) (t : Tables) (r : Request) where
+  refusals : Refusals (IfGood op t r) t (r .host)
+  unfolding conflict telling
+  refusals =
+      record {
+        refuses = refused-by (IfGood op t r) (r .host) (λ a q. unfold check in λ e. absurd (omega (arith, e)));
+        conflicts = λ e. absurd (omega (arith, e));
+        tells = λ e. absurd (omega (arith, e));
+      }
+
+  good-steps : IfGood op t r (stepsOf op t (r .host) (r .block) (r .parameters))
+  good-steps =
+      steps-shown-by (IfGood op t r) t (r .host) refusals op (r .block) (r .parameters)
+      λ _ e _. record { no-fault = eqb-true _ _ e; acts = refl }
+
+-- house number 5 is no GOOD answer, and what fits is as it was
+good-fits : (buffer : List ℕ) (v : Verdict) → Good (fits buffer v) → fits buffer v ≡ v
+unfolding fits
+good-fits buffer (Number n) g = refl
+good-fits buffer (Prevented n h) g = refl
+good-fits buffer (Done s bytes cs) g =
+    on (λ (v : Verdict). Good v → v ≡ Done s bytes cs) (leb (length bytes) (length buffer)) (λ _ _. refl) (λ _ e. absurd (omega (arith, e))) g
+
+good-verdict : (t : Tables) (r : Request) → IfGood (operation (r .block)) t r (verdict t (Command r))
+unfolding verdict judge judged steps
+good-verdict t r =
+    let op = operation (r .block) in
+    let F : Verdict → Type 0 = IfGood op t r in
+    on F _
+    (λ _. on F _
+    (λ _. on F _
+    (λ _. on F _
+    (λ _ g.
+    let v = stepsOf op t (r .host) (r .block) (r .parameters) in
+    let e = good-fits (r .buffer) v g in
+    let a = good-steps op t r (subst Good e g) in
+    record { no-fault = a .no-fault; acts = e ∙ a .acts })
+    (λ _ e. absurd (omega (arith, e))))
+    (λ _ e. absurd (omega (arith, e))))
+    (λ _ e. absurd (omega (arith, e))))
+    (λ _ e. absurd (omega (arith, e)))
+
+good-outcome : (t : Tables) (buffer : List ℕ) (v : Verdict) → outcome t buffer v .number ≡ 0 → outcome t buffer v .status ≡ GOOD → Good v
+unfolding outcome
+good-outcome t buffer (Number n) e g = e
+good-outcome t buffer (Prevented n h) e g = omega (arith, e)
+good-outcome t buffer (Done s bytes cs) e g = g
+
+pub good-acts : (t : Tables) (r : Request) → serve t (Command r) .number ≡ 0 → serve t (Command r) .status ≡ GOOD
+    → Acted (operation (r .block)) t r (verdict t (Command r))
+unfolding serve
+good-acts t r e g = good-verdict t r (good-outcome t _ _ e g)
