@@ -1,4 +1,5 @@
-// House numbers round the steps, and the entries that a C front end calls. An entry asks nothing of its caller: any bytes, any lengths, any numbers.
+// House numbers round the steps, and the entries that a C front end calls. An entry asks nothing of the values that it is
+// lent: any bytes, any lengths, any numbers. What a caller owes beside (valid slices that do not overlap, one call at a time) stands in include/smc.h.
 pub mod serving;
 
 use order::Reply;

@@ -1,10 +1,11 @@
 -- None of the promises is hollow: each is met by calls on the small library, whose outcomes compute. Assumes nothing.
 use Prim.Native.Nat.{ℕ, _+_, _≤_}
 use native.Mathlib.Omega.{arith}
-use mathlib.Core.Path.{_≡_, refl, sym, _∙_}
+use mathlib.Core.Path.{_≡_, refl, sym, ap, subst, _∙_}
 use mathlib.Core.Logic.{_≢_, ⊎-elim}
 use mathlib.Core.Bool.{Bool, true, false}
 use mathlib.Core.List.{List, [], _∷_, _++_, map, List·Memᴰ, List·Memᴰ·not-nil, List·Memᴰ·cases-cons}
+use lib.ListN.{length}
 use lib.Dec.{leb}
 use borrow.Author.Tests.{leb-true}
 use Rattle.rules.specs.Choice.{when, differ}
@@ -12,20 +13,25 @@ use Rattle.rules.specs.Tables.{Tables}
 use Rattle.rules.specs.Sound.{sound}
 use Rattle.rules.specs.Order.{Outcome, GOOD, CHECK-CONDITION, RESERVATION-CONFLICT}
 use Rattle.rules.specs.Command.{Request, Call, Command, Import, Export, serve}
-use Rattle.rules.specs.Histories.{next, History, begun, called, imports, exports, Reply, runRequests, replies, Mixing, none, left, right, named, From, end, more, Apart}
-use Rattle.rules.specs.Small.{element, empty, loaded, elementsOf, library, quietHead, small, moveBlock, readBlock, asks, lentBuffer, refuses}
+use Rattle.rules.specs.Numbers.{conditions, Foremost}
+use Rattle.rules.specs.Histories.{next, History, begun, called, imports, exports, Reply, toldTo, runRequests, replies, Mixing, none, left, right, named, From, end, more, Apart}
+use Rattle.rules.specs.Small.{element, empty, loaded, elementsOf, library, quietHead, small, moveBlock, readBlock, sends, asks, lentBuffer, refuses}
 use Rattle.rules.specs.Cases.{Case, numbers, eventNumbers, twice, laden, locked, addressPage, geometryPage, capabilityPage, wholeModes, modeBlock}
 use Rattle.rules.proofs.Ladder.{differ-true}
+use Rattle.rules.proofs.Same.{unfit-names-none}
 use Rattle.promises.specs.Refusals.{Untouched, OwnBytesAlone, Kept, Reads}
+use Rattle.promises.specs.Listings.{wholeAnswer, returnedFor, Honest, Listed}
 use Rattle.promises.specs.Modes.{codesOf, uncut, CutAlone}
 use Rattle.promises.specs.Demand3.{AsIfAlone}
 use Rattle.promises.specs.Sequences.{AsTheRules}
 use Rattle.promises.specs.Volumes.{standing}
 use Rattle.rules.proofs.Opened.{opened}
 use Rattle.promises.proofs.SoundStays.{sound-stays-promised}
+use Rattle.promises.proofs.Numbers.{numbers-exact}
 use Rattle.promises.proofs.Refusals.{by-number, by-status, buffer-kept, only-reads}
+use Rattle.promises.proofs.Listings.{honest-listings, listings-returned}
 use Rattle.promises.proofs.Modes.{cut-once}
-use Rattle.promises.proofs.Demand3.{demand3}
+use Rattle.promises.proofs.Demand3.{demand3, runs-are-histories}
 use Rattle.promises.proofs.Sequences.{sequences}
 use Rattle.promises.proofs.Volumes.{volumes-promised, never-twice}
 
@@ -80,6 +86,31 @@ each-number : map numberOf refusals ≡ 1 ∷ 2 ∷ 3 ∷ 4 ∷ 5 ∷ 6 ∷ 7 �
 unfolding opened refusals numberOf numbers eventNumbers twice laden locked refuses
 each-number = refl
 
+-- the first of them: the tables are not sound, nor is the host one, nor does the block fit
+three-hold : conditions twice (sends 0 [] [] (lentBuffer 1)) ≡ false ∷ true ∷ true ∷ true ∷ false ∷ false ∷ []
+unfolding opened twice
+three-hold = refl
+
+first-told : Foremost twice (sends 0 [] [] (lentBuffer 1)) 1
+unfolding opened twice
+first-told = numbers-exact twice (sends 0 [] [] (lentBuffer 1)) 1 .only-when refl
+
+-- a buffer one byte too short, and one that is just long enough
+listed : ℕ → Call
+listed bytes = sends 1 (readBlock 2 2 47) [] (lentBuffer bytes)
+
+one-short : conditions small (listed 31) ≡ false ∷ false ∷ false ∷ false ∷ false ∷ true ∷ []
+unfolding opened listed
+one-short = refl
+
+five-told : Foremost small (listed 31) 5
+unfolding opened listed
+five-told = numbers-exact small (listed 31) 5 .only-when refl
+
+none-short : Foremost small (listed 32) 0
+unfolding opened listed
+none-short = numbers-exact small (listed 32) 0 .only-when refl
+
 none-done : every (λ c. differ (numberOf c) 0) refusals ≡ true
 unfolding every opened refusals numberOf numbers eventNumbers twice laden locked refuses
 none-done = refl
@@ -130,6 +161,22 @@ p12-reads = only-reads small (Command p12) (λ e. let z : _≡_ {A = ℕ} 48 0 =
 p12-keeps : Kept (Command p12) (serve small (Command p12))
 p12-keeps = buffer-kept small (Command p12)
 
+-- its bytes stand in the buffer; with an allocation of 47 the second descriptor would not have fitted
+p12-listed : Listed small p12 (serve small (Command p12))
+unfolding opened p12
+p12-listed = listings-returned small p12 refl refl refl
+
+cut-47 : length (returnedFor small (readBlock 2 2 47) 47) ≡ 32
+unfolding opened
+cut-47 = refl
+
+whole-48 : length (wholeAnswer small (readBlock 2 2 47)) ≡ 48
+unfolding opened
+whole-48 = refl
+
+cut-47-honest : Honest small (readBlock 2 2 47) 47
+cut-47-honest = honest-listings small (readBlock 2 2 47) 47
+
 -- ---- MODE SENSE: all pages of the small library, whole and cut in the middle of a page
 
 modes : ℕ → Request
@@ -154,6 +201,22 @@ five-cut = cut-once small (modes 5) refl refl refl
 five-counted : serve small (Command (modes 5)) .count ≡ 5
 unfolding opened modes modeBlock
 five-counted = refl
+
+-- ---- histories
+
+-- the history that the rules themselves make
+passes : Tables → List Call → Tables
+passes t [] = t
+passes t (c ∷ cs) = passes (serve t c .tables) cs
+
+gives : Tables → List Call → List Outcome
+gives t [] = []
+gives t (c ∷ cs) = serve t c ∷ gives (serve t c .tables) cs
+
+history : (t : Tables) (cs : List Call) → History t cs (gives t cs) (passes t cs)
+unfolding passes gives
+history t [] = begun
+history t (c ∷ cs) = called refl (history (serve t c .tables) cs)
 
 -- ---- demand 3: two hosts that really move reels, in all six mixings
 
@@ -222,15 +285,15 @@ each-mixing : (m : Mixed) → AsIfAlone 1 2 ones twos (m .order) small
 each-mixing m = demand3 1 2 (λ e. omega arith) ones twos (m .order) from-one from-two apart (m .mixing) small
 
 -- what each host is told alone, and where the reels are at the end
-good : Reply
-good = record { number = 0; status = 0; count = 0; buffer = [] }
+answer : ℕ → Reply
+answer number = record { number = number; status = 0; count = 0; preventers = 0; lowest = 0; buffer = [] }
 
-one-alone : replies 1 small ones ≡ good ∷ good ∷ []
-unfolding opened ones a₁ a₂ sent good
+one-alone : replies 1 small ones ≡ answer 0 ∷ answer 0 ∷ []
+unfolding opened ones a₁ a₂ sent answer
 one-alone = refl
 
-two-alone : replies 2 small twos ≡ good ∷ good ∷ []
-unfolding opened twos b₁ b₂ sent good
+two-alone : replies 2 small twos ≡ answer 0 ∷ answer 0 ∷ []
+unfolding opened twos b₁ b₂ sent answer
 two-alone = refl
 
 moved : Tables
@@ -243,21 +306,39 @@ all-moved = refl
 each-moved : (m : Mixed) → runRequests small (m .order) ≡ moved
 each-moved m = each-mixing m .tables ∙ all-moved
 
+-- the history in which the hosts take turns: its outcomes tell each host what it is told alone
+turns : List Request
+turns = a₁ ∷ b₁ ∷ a₂ ∷ b₂ ∷ []
+
+turns-told : (h : ℕ) → toldTo h turns (gives small (map Command turns)) ≡ replies h small turns
+turns-told h = runs-are-histories small turns .tells (passes small (map Command turns)) _ (history small (map Command turns)) h
+
+turns-one : toldTo 1 turns (gives small (map Command turns)) ≡ answer 0 ∷ answer 0 ∷ []
+unfolding opened turns gives a₁ a₂ b₁ b₂ sent answer
+turns-one = refl
+
+-- two hosts that each send a block of one byte name no address, and are told number 3 in either order
+short : ℕ → Request
+short host = record { host = host; block = 0xA5 ∷ []; parameters = []; buffer = [] }
+
+names-none : named (short 1 .block) ≡ []
+unfolding opened short
+names-none = unfit-names-none (0xA5 ∷ []) refl
+
+short-apart : Apart (short 1 ∷ []) (short 2 ∷ [])
+short-apart x y m n a i j =
+    ⊎-elim (λ (e : x ≡ short 1). List·Memᴰ·not-nil (subst (List·Memᴰ a) (ap (λ (r : Request). named (r .block)) e ∙ names-none) i))
+    (λ r. absurd (List·Memᴰ·not-nil r)) (List·Memᴰ·cases-cons m)
+
+short-mixed : AsIfAlone 1 2 (short 1 ∷ []) (short 2 ∷ []) (short 2 ∷ short 1 ∷ []) small
+unfolding opened short
+short-mixed = demand3 1 2 (λ e. omega arith) _ _ _ (more refl refl end) (more refl refl end) short-apart (right (left none)) small
+
+short-told : replies 1 small (short 1 ∷ []) ≡ answer 3 ∷ []
+unfolding opened short answer
+short-told = refl
+
 -- ---- sequences and volumes: a history with an import and an export
-
--- the history that the rules themselves make
-passes : Tables → List Call → Tables
-passes t [] = t
-passes t (c ∷ cs) = passes (serve t c .tables) cs
-
-gives : Tables → List Call → List Outcome
-gives t [] = []
-gives t (c ∷ cs) = serve t c ∷ gives (serve t c .tables) cs
-
-history : (t : Tables) (cs : List Call) → History t cs (gives t cs) (passes t cs)
-unfolding passes gives
-history t [] = begun
-history t (c ∷ cs) = called refl (history (serve t c .tables) cs)
 
 -- volume 3 comes in and goes to a shelf, volume 1 goes out; host 1 is told of the import in between
 day : List Call

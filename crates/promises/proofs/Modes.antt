@@ -1,12 +1,11 @@
 -- Answers of MODE SENSE are cut, and no length in them is. Assumes nothing.
 use Prim.Native.Nat.{ℕ, zero, suc, _+_, _≤_}
 use native.Mathlib.Omega.{arith}
-use native.Mathlib.Nat.{zero-add}
 use mathlib.Core.Path.{_≡_, refl, sym, ap, subst, _∙_}
 use mathlib.Core.Bool.{true, false}
 use mathlib.Core.List.{List, [], _∷_, _++_, append-nil}
 use lib.ListN.{length, take, drop, length-append}
-use lib.Seq.{sets-eq, drop-append-seam}
+use lib.Seq.{drop-append-seam}
 use borrow.Author.Tests.{ltb-false, not-false}
 use Rattle.rules.specs.Choice.{when, anyOf}
 use Rattle.rules.specs.Bytes.{byte, put, cut}
@@ -16,11 +15,11 @@ use Rattle.rules.specs.Operation.{ModeSense, MODE-SENSE, decoded, operation}
 use Rattle.rules.specs.Order.{outcome}
 use Rattle.rules.specs.Mode.{ADDRESSES, GEOMETRY, CAPABILITIES, ALL-PAGES, pageCode, paged, assignments, members, capabilities, sought, modePages, modeWhole, knownPage, noAnswer, modeSense}
 use Rattle.rules.specs.Form.{fault}
-use Rattle.rules.specs.Command.{Request, Command, act, verdict, serve, bufferOf}
+use Rattle.rules.specs.Command.{Request, Command, act, serve}
 use Rattle.rules.proofs.Ladder.{any-first, any-rest}
-use Rattle.rules.proofs.Writes.{cut-length}
+use Rattle.rules.proofs.Writes.{cut-length, put-front}
 use Rattle.rules.proofs.Untouched.{count-fits}
-use Rattle.rules.proofs.Acts.{Acted, good-acts}
+use Rattle.rules.proofs.Acts.{good-acts, good-serves}
 use Rattle.rules.proofs.Pages.{known-by, answered}
 use Rattle.promises.specs.Modes.{codesOf, ArePages, CutAlone, CutOnce, uncut}
 
@@ -70,19 +69,13 @@ take-again (suc n) (x ∷ l) = ap (λ m. x ∷ m) (take-again n l)
 
 buffer-cut : (allocation : ℕ) (whole buffer : List ℕ) → length (cut allocation whole) ≤ length buffer
     → put buffer 0 (cut allocation whole) ≡ take (length (cut allocation whole)) whole ++ drop (length (cut allocation whole)) buffer
-unfolding cut put
-buffer-cut allocation whole buffer h =
-    sets-eq (take allocation whole) buffer 0 (omega arith) ∙ rw (zero-add (length (take allocation whole)), take-again allocation whole)
+unfolding cut
+buffer-cut allocation whole buffer h = put-front (take allocation whole) buffer h ∙ rw (take-again allocation whole)
 
 module _ (t : Tables) (r : Request) (first : byte (r .block) 0 ≡ MODE-SENSE) where
   operation-is : operation (r .block) ≡ ModeSense
   unfolding operation decoded when
   operation-is = ap decoded first
-
-  outcome-is : Acted (operation (r .block)) t r (verdict t (Command r))
-      → serve t (Command r) ≡ outcome t (r .buffer) (modeSense t (r .host) (r .block))
-  unfolding serve bufferOf act
-  outcome-is a = ap (outcome t (r .buffer)) (a .acts ∙ ap (λ op. act op t (r .host) (r .block) (r .parameters)) operation-is)
 
   cut-alone : noAnswer (t .head) (r .block) ≡ false → serve t (Command r) ≡ outcome t (r .buffer) (modeSense t (r .host) (r .block))
       → CutAlone t r (serve t (Command r))
@@ -102,8 +95,9 @@ module _ (t : Tables) (r : Request) (first : byte (r .block) 0 ≡ MODE-SENSE) w
       })
 
 pub cut-once : CutOnce
+unfolding act
 cut-once t r first number good =
     let a = good-acts t r number good in
     let f : fault ModeSense (t .head) (r .block) (r .parameters) ≡ 0
     = subst (λ op. fault op (t .head) (r .block) (r .parameters) ≡ 0) (operation-is t r first) (a .no-fault) in
-    cut-alone t r first (answered _ _ _ f) (outcome-is t r first a)
+    cut-alone t r first (answered _ _ _ f) (good-serves ModeSense t r (operation-is t r first) number good)

@@ -1,16 +1,19 @@
 -- What is answered with GOOD was carried out: a command that ends with number 0 and GOOD has passed steps 1 to 4, and ends as `act` says. Assumes nothing.
 use Prim.Native.Nat.{ℕ}
 use native.Mathlib.Omega.{arith}
-use mathlib.Core.Path.{_≡_, refl, subst, _∙_}
-use mathlib.Core.List.{List}
+use mathlib.Core.Path.{_≡_, refl, ap, subst, _∙_}
+use mathlib.Core.List.{List, [], _∷_}
 use lib.ListN.{length}
 use lib.Dec.{leb}
 use borrow.Author.Tests.{eqb-true}
-use Rattle.rules.specs.Tables.{Tables}
-use Rattle.rules.specs.Operation.{Operation, operation}
+use Rattle.rules.specs.Choice.{when}
+use Rattle.rules.specs.Bytes.{byte, triple}
+use Rattle.rules.specs.Tables.{Tables, Sense}
+use Rattle.rules.specs.Operation.{Operation, ReadElementStatus, READ-ELEMENT-STATUS, decoded, operation}
 use Rattle.rules.specs.Order.{Verdict, Number, Prevented, Done, GOOD, check, conflict, outcome, fits}
+use Rattle.rules.specs.Listing.{withTags, chosenBy, listing, readStatus}
 use Rattle.rules.specs.Form.{fault}
-use Rattle.rules.specs.Command.{Request, Command, act, stepsOf, steps, judged, judge, verdict, serve}
+use Rattle.rules.specs.Command.{Request, Command, act, stepsOf, steps, judged, judge, verdict, bufferOf, serve}
 use Rattle.rules.proofs.Ladder.{on}
 use Rattle.rules.proofs.Walks.{telling, Refusals, refused-by, steps-shown-by}
 
@@ -80,3 +83,17 @@ pub good-acts : (t : Tables) (r : Request) → serve t (Command r) .number ≡ 0
     → Acted (operation (r .block)) t r (verdict t (Command r))
 unfolding serve
 good-acts t r e g = good-verdict t r (good-outcome t _ _ e g)
+
+-- of a command whose operation is known: its outcome is that of what is carried out
+pub good-serves : (op : Operation) (t : Tables) (r : Request) → operation (r .block) ≡ op → serve t (Command r) .number ≡ 0 → serve t (Command r) .status ≡ GOOD
+    → serve t (Command r) ≡ outcome t (r .buffer) (act op t (r .host) (r .block) (r .parameters))
+unfolding serve bufferOf
+good-serves op t r o e g =
+    ap (outcome t (r .buffer)) (good-acts t r e g .acts ∙ ap (λ (x : Operation). act x t (r .host) (r .block) (r .parameters)) o)
+
+-- READ ELEMENT STATUS returns the listing for the block's own allocation
+pub listing-serves : (t : Tables) (r : Request) → byte (r .block) 0 ≡ READ-ELEMENT-STATUS → serve t (Command r) .number ≡ 0 → serve t (Command r) .status ≡ GOOD
+    → serve t (Command r)
+    ≡ outcome t (r .buffer) (Done GOOD (listing (withTags (r .block)) t (triple (r .block) 7) (chosenBy t (r .block))) (Sense (r .host) 0 0 0 ∷ []))
+unfolding operation decoded when act readStatus
+listing-serves t r first e g = good-serves ReadElementStatus t r (ap decoded first) e g

@@ -13,11 +13,11 @@ use Rattle.rules.specs.Tables.{lent, ofRow}
 use Rattle.rules.specs.Order.{Outcome}
 use Rattle.rules.specs.Command.{serve}
 use Rattle.rules.specs.Small.{ends, checks, refuses}
-use Rattle.rules.specs.Cases.{Case, Name, moves, exchanges, whole12, read12, cuts, tagged, labelled, wholeAll, readAll, failedReserve, ownSense, importAfterReset, shipped, twice, laden, locked, numbers, eventNumbers, stepCases, holdCases, eventCases, addressPage, geometryPage, capabilityPage, wholeModes, modeBlock, modeCases, armsHead, armsElements, longCases, cases, same, sameAll, sameOutcome, wrong}
+use Rattle.rules.specs.Cases.{Case, Name, moves, exchanges, whole12, read12, cuts, tagged, labelled, wholeAll, readAll, failedReserve, ownSense, importAfterReset, shipped, twice, laden, locked, numbers, eventNumbers, stepCases, heldBy, withheld, touchCases, holdCases, eventCases, addressPage, geometryPage, capabilityPage, wholeModes, modeBlock, modeCases, armsHead, armsElements, longCases, cases, same, sameAll, sameOutcome, wrong}
 
 -- `wrong` with every definition open. The table is computed in parts that are small enough for an error to name the row.
 tested : List Case → List Name
-unfolding opened ends checks refuses moves exchanges whole12 read12 cuts tagged labelled wholeAll readAll failedReserve ownSense importAfterReset shipped twice laden locked numbers eventNumbers stepCases holdCases eventCases addressPage geometryPage capabilityPage wholeModes modeBlock modeCases armsHead armsElements longCases cases same sameAll sameOutcome wrong
+unfolding opened ends checks refuses moves exchanges whole12 read12 cuts tagged labelled wholeAll readAll failedReserve ownSense importAfterReset shipped twice laden locked numbers eventNumbers stepCases heldBy withheld touchCases holdCases eventCases addressPage geometryPage capabilityPage wholeModes modeBlock modeCases armsHead armsElements longCases cases same sameAll sameOutcome wrong
 tested cs = wrong cs
 
 moves-computed : tested moves ≡ []
@@ -51,6 +51,10 @@ eventNumbers-computed = refl {a = []}
 stepCases-computed : tested stepCases ≡ []
 unfolding tested
 stepCases-computed = refl {a = []}
+
+touchCases-computed : tested touchCases ≡ []
+unfolding tested
+touchCases-computed = refl {a = []}
 
 holdCases-computed : tested holdCases ≡ []
 unfolding tested
@@ -149,7 +153,7 @@ pub cases-hold : AllHold cases
 unfolding cases
 cases-hold =
     both
-    (both (both (both (both (both (both (both (both (both (both (hold moves moves-computed)
+    (both (both (both (both (both (both (both (both (both (both (both (hold moves moves-computed)
     (hold exchanges exchanges-computed))
     (hold cuts cuts-computed))
     (hold readAll readAll-computed))
@@ -157,6 +161,7 @@ cases-hold =
     (hold numbers numbers-computed))
     (hold eventNumbers eventNumbers-computed))
     (hold stepCases stepCases-computed))
+    (hold touchCases touchCases-computed))
     (hold holdCases holdCases-computed))
     (hold eventCases eventCases-computed))
     (hold modeCases modeCases-computed))

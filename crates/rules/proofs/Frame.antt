@@ -15,9 +15,9 @@ use Rattle.rules.specs.Order.{Verdict, Number, Prevented, Done, after, f
 use Rattle.rules.specs.Moves.{noPlace, leave, carry, moveOf, move, exchangeOf, exchange}
 use Rattle.rules.specs.Sense.{requestSense}
 use Rattle.rules.specs.Operation.{Operation, TestUnitReady, RequestSense, Reserve, Release, PreventAllow, MoveMedium, ExchangeMedium, ReadElementStatus, ModeSense, Unknown, operation}
-use Rattle.rules.specs.Command.{Request, act, steps, judged}
+use Rattle.rules.specs.Command.{Request, act, steps, blockFits, judged}
 use Rattle.rules.specs.Histories.{named, namedBy, mixes, joins, Disjoint}
-use Rattle.rules.proofs.Ladder.{on, never}
+use Rattle.rules.proofs.Ladder.{on, when-true, never}
 use Rattle.rules.proofs.Walks.{Refusals, telling, refused-by, steps-by, move-by, exchange-by}
 use Rattle.rules.proofs.Local.{Local, OfHost, OfStock, leaves, local-comm, local-more, sense-local, attention-local, stock-local}
 use Rattle.rules.proofs.Places.{place-apart, roster-same}
@@ -235,11 +235,13 @@ act-kept ReadElementStatus t h block list o m = absurd (never m)
 act-kept ModeSense t h block list o m = absurd (never m)
 act-kept Unknown t h block list o m = absurd (never m)
 
-steps-kept : (t : Tables) (h : ℕ) (block list : List ℕ) → 1 ≤ h → mixes block ≡ true → Keeps (roster (t .head)) h (named block) (steps t h block list)
+steps-kept : (t : Tables) (h : ℕ) (block list : List ℕ) → 1 ≤ h → mixes block ≡ true → blockFits block ≡ true
+    → Keeps (roster (t .head)) h (named block) (steps t h block list)
 unfolding Kept steps mixes named
-steps-kept t h block list o m =
-    steps-by (Kept t h (named block) o) t h (kept-refusals t h (named block) o) (operation block) block list
-    (λ _. act-kept (operation block) t h block list o m)
+steps-kept t h block list o m f =
+    let N = namedBy (operation block) block in
+    rw (when-true (blockFits block) N [] f)
+    (steps-by (Kept t h N o) t h (kept-refusals t h N o) (operation block) block list (λ _. act-kept (operation block) t h block list o m))
 
 pub judged-kept : (t : Tables) (r : Request) → mixes (r .block) ≡ true → Keeps (roster (t .head)) (r .host) (named (r .block)) (judged t r)
 unfolding judged Kept
@@ -249,6 +251,6 @@ judged-kept t r m =
     (λ e.
     let o = within-low 1 hosts (r .host) e in
     on K _
-    (λ _. on K _ (λ _. kept-fits t (r .host) (named (r .block)) o (r .buffer) _ (steps-kept t (r .host) (r .block) (r .parameters) o m)) (λ _. tt))
+    (λ f. on K _ (λ _. kept-fits t (r .host) (named (r .block)) o (r .buffer) _ (steps-kept t (r .host) (r .block) (r .parameters) o m f)) (λ _. tt))
     (λ _. tt))
     (λ _. tt)

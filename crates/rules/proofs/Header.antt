@@ -3,13 +3,13 @@
 use Prim.Native.Nat.{ℕ, zero, suc, _+_, _-_, _≤_, _<_}
 use native.Mathlib.Omega.{arith}
 use mathlib.Core.Path.{_≡_, refl, sym, ap, _∙_}
-use mathlib.Core.Logic.{_⊎_, inl, inr}
-use mathlib.Core.List.{List, [], _∷_, _++_, map, append-assoc, append-nil}
+use mathlib.Core.Logic.{_⊎_, inl, inr, ⊎-elim}
+use mathlib.Core.List.{List, [], _∷_, _++_, map, append-assoc, append-nil, List·Memᴰ, List·Memᴰ·cases-cons}
 use mathlib.Core.Bool.{Bool, true, false}
 use lib.ListN.{length, take, length-append, length-map}
 use lib.Seq.{take-append-add, take-append-le, length-take-le, take-take}
 use lib.Dec.{leb, ltb, T}
-use borrow.Author.Tests.{leb-true, ltb-true, ltb-false, le-leb, lt-ltb, le-ltb}
+use borrow.Author.Tests.{leb-true, leb-false, ltb-true, ltb-false, le-leb, lt-ltb, le-ltb}
 use Rattle.rules.specs.Choice.{when, anyOf}
 use Rattle.rules.specs.Bytes.{byte, word, triple, three, cut}
 use Rattle.rules.specs.Tables.{Tables}
@@ -37,7 +37,7 @@ fitting-begins : (room : ℕ) (ps : List (List ℕ)) → Begins (fitting room ps
 unfolding fitting joined
 fitting-begins room [] = refl
 fitting-begins room (p ∷ ps) =
-    on (λ (x : List ℕ). Begins x (p ++ joined ps)) (leb (length p) room)
+    on (λ (x : List ℕ). Begins x (p ++ joined ps)) _
     (λ e. begins-behind p (fitting (room - length p) ps) (joined ps) (fitting-begins (room - length p) ps)) (λ e. refl)
 
 fitting-grows : (room more : ℕ) (ps : List (List ℕ)) → room ≤ more → Begins (fitting room ps) (fitting more ps)
@@ -124,56 +124,98 @@ returned-all allocation ss ps h =
     when-false (ltb allocation 8) (take allocation (headerOf ss ps)) (headerOf ss ps ++ fitting (allocation - 8) ps) (le-ltb allocation 8 (omega arith))
     ∙ ap (λ (x : List ℕ). headerOf ss ps ++ x) (fitting-all (allocation - 8) ps (omega arith))
 
--- ---- each piece ends with a descriptor, so what is returned does
+-- ---- each piece ends with the descriptor of an element listed, so what is returned does
 
--- it ends with the descriptor of an element
-abbrev pub Ends : Bool → Tables → List ℕ → Type 0
-Ends tagged t xs = (front : List ℕ) × (s : Slot) × (xs ≡ front ++ descriptor tagged t s)
+-- it ends with the descriptor of one of the elements ss
+abbrev pub Ends : Bool → Tables → List Slot → List ℕ → Type 0
+Ends tagged t ss xs = (front : List ℕ) × (s : Slot) × List·Memᴰ s ss × (xs ≡ front ++ descriptor tagged t s)
 
-abbrev AllEnd : Bool → Tables → List (List ℕ) → Type 0
-AllEnd tagged t [] = T true
-AllEnd tagged t (p ∷ ps) = Ends tagged t p × AllEnd tagged t ps
+abbrev AllEnd : Bool → Tables → List Slot → List (List ℕ) → Type 0
+AllEnd tagged t ss [] = T true
+AllEnd tagged t ss (p ∷ ps) = Ends tagged t ss p × AllEnd tagged t ss ps
 
-map-ends : (tagged : Bool) (t : Tables) (ss : List Slot) → AllEnd tagged t (map (descriptor tagged t) ss)
-map-ends tagged t [] = tt
-map-ends tagged t (s ∷ ss) = (([], s, refl), map-ends tagged t ss)
+-- each element of the one list is in the other
+abbrev Among : List Slot → List Slot → Type 0
+Among us ss = (s : Slot) → List·Memᴰ s us → List·Memᴰ s ss
 
-append-ends : (tagged : Bool) (t : Tables) (ps qs : List (List ℕ)) → AllEnd tagged t ps → AllEnd tagged t qs → AllEnd tagged t (ps ++ qs)
-append-ends tagged t [] qs a b = b
-append-ends tagged t (p ∷ ps) qs a b = (a .0, append-ends tagged t ps qs (a .1) b)
+keep-among : (f : Slot → Bool) (ss : List Slot) → Among (keep f ss) ss
+unfolding keep
+keep-among f [] s m = m
+keep-among f (u ∷ ss) s m =
+    on (λ (us : List Slot). List·Memᴰ s us → List·Memᴰ s (u ∷ ss)) (f u)
+    (λ _ n. ⊎-elim (λ i. List·Memᴰ.List·Memᴰ·head i) (λ k. List·Memᴰ.List·Memᴰ·tail (keep-among f ss s k)) (List·Memᴰ·cases-cons n))
+    (λ _ n. List·Memᴰ.List·Memᴰ·tail (keep-among f ss s n)) m
 
-page-ends : (tagged : Bool) (t : Tables) (kind : ℕ) (ss : List Slot) → AllEnd tagged t (page tagged t kind ss)
-unfolding page
-page-ends tagged t kind [] = tt
-page-ends tagged t kind (s ∷ ss) = ((pageHeader tagged kind (suc (length ss)), s, refl), map-ends tagged t ss)
+module _ (tagged : Bool) (t : Tables) (ss : List Slot) where
+  map-ends : (us : List Slot) → Among us ss → AllEnd tagged t ss (map (descriptor tagged t) us)
+  map-ends [] i = tt
+  map-ends (u ∷ us) i = (([], u, i u (List·Memᴰ.List·Memᴰ·head refl), refl), map-ends us (λ s m. i s (List·Memᴰ.List·Memᴰ·tail m)))
 
-pages-end : (tagged : Bool) (t : Tables) (rs : List Range) (ss : List Slot) → AllEnd tagged t (pages tagged t rs ss)
-unfolding pages
-pages-end tagged t [] ss = tt
-pages-end tagged t (r ∷ rs) ss =
-    append-ends tagged t (page tagged t (r .kind) (keep (ofType (r .kind)) ss)) (pages tagged t rs ss) (page-ends tagged t (r .kind) _) (pages-end tagged t rs ss)
+  append-ends : (ps qs : List (List ℕ)) → AllEnd tagged t ss ps → AllEnd tagged t ss qs → AllEnd tagged t ss (ps ++ qs)
+  append-ends [] qs a b = b
+  append-ends (p ∷ ps) qs a b = (a .0, append-ends ps qs (a .1) b)
 
-pages-of-end : (tagged : Bool) (t : Tables) (ss : List Slot) → AllEnd tagged t (pagesOf tagged t ss)
-unfolding pagesOf
-pages-of-end tagged t ss = pages-end tagged t (sorted (ranges (t .head))) ss
+  page-ends : (kind : ℕ) (us : List Slot) → Among us ss → AllEnd tagged t ss (page tagged t kind us)
+  unfolding page
+  page-ends kind [] i = tt
+  page-ends kind (u ∷ us) i =
+      ((pageHeader tagged kind (suc (length us)), u, i u (List·Memᴰ.List·Memᴰ·head refl), refl), map-ends us (λ s m. i s (List·Memᴰ.List·Memᴰ·tail m)))
 
--- nothing, or ended
-abbrev Ended : Bool → Tables → List ℕ → Type 0
-Ended tagged t xs = (xs ≡ []) ⊎ Ends tagged t xs
+  pages-end : (rs : List Range) → AllEnd tagged t ss (pages tagged t rs ss)
+  unfolding pages
+  pages-end [] = tt
+  pages-end (r ∷ rs) =
+      append-ends (page tagged t (r .kind) (keep (ofType (r .kind)) ss)) (pages tagged t rs ss) (page-ends (r .kind) _ (keep-among _ ss)) (pages-end rs)
 
-ends-behind : (tagged : Bool) (t : Tables) (hs xs : List ℕ) → Ends tagged t xs → Ends tagged t (hs ++ xs)
-ends-behind tagged t hs xs (front, s, e) = (hs ++ front, s, ap (λ (x : List ℕ). hs ++ x) e ∙ sym (append-assoc hs front (descriptor tagged t s)))
+  pages-of-end : AllEnd tagged t ss (pagesOf tagged t ss)
+  unfolding pagesOf
+  pages-of-end = pages-end (sorted (ranges (t .head)))
 
-fitting-ends : (tagged : Bool) (t : Tables) (room : ℕ) (ps : List (List ℕ)) → AllEnd tagged t ps → Ended tagged t (fitting room ps)
-unfolding fitting
-fitting-ends tagged t room [] a = inl refl
-fitting-ends tagged t room (p ∷ ps) a =
-    on (Ended tagged t) (leb (length p) room) (λ e. inr (join (fitting (room - length p) ps) (fitting-ends tagged t (room - length p) ps (a .1))))
-    (λ e. inl refl)
+  -- nothing, or ended
+  abbrev Ended : List ℕ → Type 0
+  Ended xs = (xs ≡ []) ⊎ Ends tagged t ss xs
+
+  ends-behind : (hs xs : List ℕ) → Ends tagged t ss xs → Ends tagged t ss (hs ++ xs)
+  ends-behind hs xs (front, s, m, e) = (hs ++ front, s, m, ap (λ (x : List ℕ). hs ++ x) e ∙ sym (append-assoc hs front (descriptor tagged t s)))
+
+  fitting-ends : (room : ℕ) (ps : List (List ℕ)) → AllEnd tagged t ss ps → Ended (fitting room ps)
+  unfolding fitting
+  fitting-ends room [] a = inl refl
+  fitting-ends room (p ∷ ps) a =
+      on Ended (leb (length p) room) (λ e. inr (join (fitting (room - length p) ps) (fitting-ends (room - length p) ps (a .1)))) (λ e. inl refl)
+    where
+      join : (xs : List ℕ) → Ended xs → Ends tagged t ss (p ++ xs)
+      join xs (inl e) = rw (e, append-nil p) (a .0)
+      join xs (inr e) = ends-behind p xs e
+
+-- ---- as many pieces as fit: all, or so many that the next one is too long
+
+abbrev Most : ℕ → List (List ℕ) → List ℕ → Type 0
+Most room ps xs =
+    (xs ≡ joined ps)
+    ⊎ ((before : List (List ℕ)) × (next : List ℕ) × (after : List (List ℕ))
+    × (ps ≡ before ++ (next ∷ after)) × (xs ≡ joined before) × (room < length xs + length next))
+
+fitting-most : (room : ℕ) (ps : List (List ℕ)) → Most room ps (fitting room ps)
+unfolding fitting joined
+fitting-most room [] = inl refl
+fitting-most room (p ∷ ps) =
+    on (Most room (p ∷ ps)) (leb (length p) room)
+    (λ e. behind (leb-true (length p) room e) (fitting (room - length p) ps) (fitting-most (room - length p) ps))
+    (λ e. inr ([], p, ps, refl, refl, omega (arith, leb-false (length p) room e)))
   where
-    join : (xs : List ℕ) → Ended tagged t xs → Ends tagged t (p ++ xs)
-    join xs (inl e) = rw (e, append-nil p) (a .0)
-    join xs (inr e) = ends-behind tagged t p xs e
+    behind : length p ≤ room → (xs : List ℕ) → Most (room - length p) ps xs → Most room (p ∷ ps) (p ++ xs)
+    behind l xs (inl e) = inl (ap (λ (x : List ℕ). p ++ x) e)
+    behind l xs (inr (b, n, a, e, d, m)) =
+        inr (p ∷ b, n, a, ap (λ (x : List (List ℕ)). p ∷ x) e, ap (λ (x : List ℕ). p ++ x) d, omega (arith, length-append p xs))
+
+fitting-room : (room : ℕ) (ps : List (List ℕ)) → length (fitting room ps) ≤ room
+unfolding fitting
+fitting-room room [] = omega arith
+fitting-room room (p ∷ ps) =
+    on (λ (xs : List ℕ). length xs ≤ room) (leb (length p) room)
+    (λ e. let l = leb-true (length p) room e in let i = fitting-room (room - length p) ps in omega (arith, length-append p (fitting (room - length p) ps)))
+    (λ e. omega arith)
 
 -- ---- the listing
 
@@ -198,13 +240,17 @@ module _ (tagged : Bool) (t : Tables) (ss : List Slot) where
   unfolding listing whole
   listing-all allocation h = returned-all allocation ss (pagesOf tagged t ss) h
 
-  -- from 8 on, it is the header alone, or it ends with a descriptor
+  -- from 8 on, it is the header and the pieces that fit
+  listing-from-8 : (allocation : ℕ) → 8 ≤ allocation
+      → listing tagged t allocation ss ≡ headerOf ss (pagesOf tagged t ss) ++ fitting (allocation - 8) (pagesOf tagged t ss)
+  unfolding listing returned
+  listing-from-8 allocation h = when-false (ltb allocation 8) _ _ (le-ltb allocation 8 h)
+
+  -- it is the header alone, or it ends with the descriptor of an element listed
   pub listing-ends : (allocation : ℕ) → 8 ≤ allocation
-      → (listing tagged t allocation ss ≡ headerOf ss (pagesOf tagged t ss)) ⊎ Ends tagged t (listing tagged t allocation ss)
-  unfolding listing returned cut
+      → (listing tagged t allocation ss ≡ headerOf ss (pagesOf tagged t ss)) ⊎ Ends tagged t ss (listing tagged t allocation ss)
   listing-ends allocation h =
-      rw (when-false (ltb allocation 8) (take allocation head) (head ++ fitting (allocation - 8) ps) (le-ltb allocation 8 h))
-      (join (fitting (allocation - 8) ps) (fitting-ends tagged t (allocation - 8) ps (pages-of-end tagged t ss)))
+      rw (listing-from-8 allocation h) (join (fitting (allocation - 8) ps) (fitting-ends tagged t ss (allocation - 8) ps (pages-of-end tagged t ss)))
     where
       ps : List (List ℕ)
       ps = pagesOf tagged t ss
@@ -212,9 +258,44 @@ module _ (tagged : Bool) (t : Tables) (ss : List Slot) where
       head : List ℕ
       head = headerOf ss (pagesOf tagged t ss)
 
-      join : (xs : List ℕ) → Ended tagged t xs → (head ++ xs ≡ head) ⊎ Ends tagged t (head ++ xs)
+      join : (xs : List ℕ) → Ended tagged t ss xs → (head ++ xs ≡ head) ⊎ Ends tagged t ss (head ++ xs)
       join xs (inl e) = inl (rw e (append-nil head))
-      join xs (inr e) = inr (ends-behind tagged t head xs e)
+      join xs (inr e) = inr (ends-behind tagged t ss head xs e)
+
+  -- "as many whole descriptors as fit": it is the whole, or one more piece would be longer than the allocation
+  pub listing-most : (allocation : ℕ) → 8 ≤ allocation
+      → (listing tagged t allocation ss ≡ whole tagged t ss)
+      ⊎ ((before : List (List ℕ)) × (next : List ℕ) × (after : List (List ℕ)) × (pagesOf tagged t ss ≡ before ++ (next ∷ after))
+      × (listing tagged t allocation ss ≡ headerOf ss (pagesOf tagged t ss) ++ joined before)
+      × (allocation < length (listing tagged t allocation ss) + length next))
+  unfolding whole
+  listing-most allocation h =
+      rw (listing-from-8 allocation h) (join (fitting (allocation - 8) ps) (fitting-most (allocation - 8) ps))
+    where
+      ps : List (List ℕ)
+      ps = pagesOf tagged t ss
+
+      head : List ℕ
+      head = headerOf ss (pagesOf tagged t ss)
+
+      join : (xs : List ℕ) → Most (allocation - 8) ps xs
+          → (head ++ xs ≡ head ++ joined ps)
+          ⊎ ((before : List (List ℕ)) × (next : List ℕ) × (after : List (List ℕ)) × (ps ≡ before ++ (next ∷ after)) × (head ++ xs ≡ head ++ joined before)
+          × (allocation < length (head ++ xs) + length next))
+      join xs (inl e) = inl (ap (λ (x : List ℕ). head ++ x) e)
+      join xs (inr (b, n, a, e, d, m)) =
+          inr (b, n, a, e, ap (λ (x : List ℕ). head ++ x) d, omega (arith, length-append head xs, header-length ss ps))
+
+  -- never more than the allocation
+  pub listing-within : (allocation : ℕ) → length (listing tagged t allocation ss) ≤ allocation
+  unfolding listing returned cut
+  listing-within allocation =
+      let ps = pagesOf tagged t ss in
+      let head = headerOf ss ps in
+      let n = header-length ss ps in
+      on (λ (xs : List ℕ). length xs ≤ allocation) (ltb allocation 8)
+      (λ e. let l = ltb-true allocation 8 e in omega (arith, length-take-le allocation head (omega arith)))
+      (λ e. let l = ltb-false allocation 8 e in omega (arith, length-append head (fitting (allocation - 8) ps), fitting-room (allocation - 8) ps))
 
 -- ---- the number that the header tells is the number of descriptors in the whole answer
 

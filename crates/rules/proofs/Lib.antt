@@ -19,6 +19,7 @@ pub mod KeepCommands
 pub mod KeepEvents
 pub mod Keeps
 pub mod Untouched
+pub mod Numbers
 pub mod Same
 pub mod Frame
 pub mod Mix

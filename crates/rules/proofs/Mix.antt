@@ -11,7 +11,7 @@ use Rattle.rules.specs.Roster.{roster}
 use Rattle.rules.specs.Sound.{sound}
 use Rattle.rules.specs.Order.{Verdict, Number, Prevented, Done, outcome, after}
 use Rattle.rules.specs.Command.{Request, Command, judged, judge, verdict, bufferOf, serve}
-use Rattle.rules.specs.Histories.{next, reply, runRequests, replies, Mixing, none, left, right, mixes, named, From, end, more, Disjoint, Apart}
+use Rattle.rules.specs.Histories.{next, run, outcomes, reply, toldTo, runRequests, replies, Mixing, none, left, right, mixes, named, From, end, more, Disjoint, Apart}
 use Rattle.rules.proofs.Ladder.{on, when-true, when-false}
 use Rattle.rules.proofs.Keeps.{sound-stays}
 use Rattle.rules.proofs.Same.{Same, touched, judged-is}
@@ -100,30 +100,30 @@ free-of h g n x hx mx (more {r = r} hy my f) d =
     (free-of h g n x hx mx f (λ y m. d y (later m)))
 
 past-run : (y : Request) {xs : List Request} → Free y xs → (t : Tables) → runRequests (next t (Command y)) xs ≡ next (runRequests t xs) (Command y)
-unfolding runRequests
+unfolding runRequests run
 past-run y free-nil t = refl
 past-run y (free-cons {x = x} {xs = xs} s f) t =
     ap (λ (u : Tables). runRequests u xs) (sym (next-comm t x y s)) ∙ past-run y f (next t (Command x))
 
 past-replies : (h : ℕ) (y : Request) {xs : List Request} → Free y xs → (t : Tables) → replies h (next t (Command y)) xs ≡ replies h t xs
-unfolding replies
+unfolding replies outcomes toldTo
 past-replies h y free-nil t = refl
 past-replies h y (free-cons {x = x} s f) t = cc (reply-past t y x (flip s), next-comm t x y s, past-replies h y f (next t (Command x)))
 
 -- ---- mixings
 
 run-append : (xs ys : List Request) (t : Tables) → runRequests t (xs ++ ys) ≡ runRequests (runRequests t xs) ys
-unfolding runRequests
+unfolding runRequests run
 run-append [] ys t = refl
 run-append (x ∷ xs) ys t = run-append xs ys (next t (Command x))
 
 replies-own : (h : ℕ) (r : Request) (rs : List Request) (t : Tables) → r .host ≡ h
     → replies h t (r ∷ rs) ≡ reply (serve t (Command r)) ∷ replies h (next t (Command r)) rs
-unfolding replies
+unfolding replies outcomes toldTo
 replies-own h r rs t e = when-true _ _ _ (eq-eqb (r .host) h e)
 
 replies-else : (h : ℕ) (r : Request) (rs : List Request) (t : Tables) → r .host ≢ h → replies h t (r ∷ rs) ≡ replies h (next t (Command r)) rs
-unfolding replies
+unfolding replies outcomes toldTo
 replies-else h r rs t n = when-false _ _ _ (ne-eqb (r .host) h n)
 
 pub record Mixed (h g : ℕ) (xs ys zs : List Request) (t : Tables) : Type 0 where
@@ -133,7 +133,7 @@ pub record Mixed (h g : ℕ) (xs ys zs : List Request) (t : Tables) : Type 0 whe
 
 pub mixing : (h g : ℕ) → h ≢ g → {xs ys zs : List Request} → Mixing xs ys zs → From h xs → From g ys → Apart xs ys → (t : Tables)
     → Mixed h g xs ys zs t
-unfolding runRequests
+unfolding runRequests run
 mixing h g n none fx fy a t = record { tables = refl; first-host = refl; second-host = refl }
 mixing h g n (left {x = x} {xs = xs} {ys = ys} {zs = zs} m) (more hx mx fx) fy a t =
     let ih : Mixed h g xs ys zs (next t (Command x)) = mixing h g n m fx fy (λ x y p. a x y (later p)) (next t (Command x)) in

@@ -1,9 +1,10 @@
 -- What a command of demand 3 reads: tables that are alike in that much are answered alike. Assumes nothing.
 use Prim.Native.Nat.{ℕ, _+_, _<_}
 use native.Mathlib.Omega.{arith}
-use mathlib.Core.Path.{_≡_, refl, ap, _∙_}
-use mathlib.Core.Bool.{true}
+use mathlib.Core.Path.{_≡_, refl, ap, subst, _∙_}
+use mathlib.Core.Bool.{Bool, true, false}
 use mathlib.Core.List.{List, [], _∷_, List·Memᴰ}
+use Rattle.rules.specs.Choice.{when}
 use Rattle.rules.specs.Bytes.{byte, word}
 use Rattle.rules.specs.Tables.{Tables, hostAt, attentionAt, elementAt, elementSize, unit, key, asc, ascq, attention, attentionq, volume}
 use Rattle.rules.specs.Roster.{roster, placeOf}
@@ -12,9 +13,9 @@ use Rattle.rules.specs.Moves.{transportUsed, noTransport, noPlace, leave
 use Rattle.rules.specs.Sense.{tellsAttention, requestSense}
 use Rattle.rules.specs.Operation.{Operation, TestUnitReady, RequestSense, Reserve, Release, PreventAllow, MoveMedium, ExchangeMedium, ReadElementStatus, ModeSense, Unknown, operation}
 use Rattle.rules.specs.Form.{ownFault, fault, formed}
-use Rattle.rules.specs.Command.{Request, act, admitted, stepsOf, steps, judged}
+use Rattle.rules.specs.Command.{Request, act, admitted, stepsOf, steps, blockFits, judged}
 use Rattle.rules.specs.Histories.{named, namedBy, mixes, joins}
-use Rattle.rules.proofs.Ladder.{never}
+use Rattle.rules.proofs.Ladder.{never, when-true, when-false}
 use Rattle.rules.proofs.Local.{OfHost}
 
 -- the j-th byte of the record of the element at an address
@@ -28,6 +29,11 @@ touching t block (a ∷ more) = transportUsed t (word block 2) ∷ a ∷ more
 
 unfoldable pub touched : Tables → List ℕ → List ℕ
 touched t block = touching t block (named block)
+
+-- a block of wrong length names nothing
+pub unfit-names-none : (block : List ℕ) → blockFits block ≡ false → named block ≡ []
+unfolding named
+unfit-names-none block e = when-false (blockFits block) (namedBy (operation block) block) [] e
 
 -- t and u are alike in all that a command of host h reads which touches T and names N: the elements there are, whether another host holds the
 -- unit or an element touched, the host's own bytes of the head, and the bytes of the elements named
@@ -167,11 +173,19 @@ module _ (h : ℕ) (block : List ℕ) (t u : Tables) where
   stepsOf-is ModeSense list m s = absurd (never m)
   stepsOf-is Unknown list m s = absurd (never m)
 
-  pub steps-is : (list : List ℕ) → mixes block ≡ true → Same h (touched t block) (named block) t u → steps t h block list ≡ steps u h block list
+  steps-is : (list : List ℕ) → mixes block ≡ true → blockFits block ≡ true → Same h (touched t block) (named block) t u
+      → steps t h block list ≡ steps u h block list
   unfolding steps mixes touched named
-  steps-is list m s = stepsOf-is (operation block) list m s
+  steps-is list m f s =
+      let e = when-true (blockFits block) (namedBy (operation block) block) [] f in
+      stepsOf-is (operation block) list m (subst (λ (N : List ℕ). Same h (touching t block N) N t u) e s)
 
+-- a block that does not fit is refused whatever the tables hold
 pub judged-is : (r : Request) (t u : Tables) → mixes (r .block) ≡ true → Same (r .host) (touched t (r .block)) (named (r .block)) t u
     → judged t r ≡ judged u r
 unfolding judged
-judged-is r t u m s = rw (steps-is (r .host) (r .block) t u (r .parameters) m s)
+judged-is r t u m s = go (blockFits (r .block)) refl
+  where
+    go : (b : Bool) → blockFits (r .block) ≡ b → judged t r ≡ judged u r
+    go true f = rw (steps-is (r .host) (r .block) t u (r .parameters) m f s)
+    go false f = unfold when in rw f

@@ -1,15 +1,15 @@
 -- Any sequence of calls ends where the rules, one by one, end; sound tables stay sound all along it. Assumes nothing.
-use mathlib.Core.Path.{_≡_, refl}
+use mathlib.Core.Path.{_≡_, refl, sym, subst}
 use mathlib.Core.Logic.{_≢_, ⊎-elim}
 use mathlib.Core.Bool.{true}
-use mathlib.Core.List.{List, List·Memᴰ, List·Memᴰ·not-nil, List·Memᴰ·cases-cons}
+use mathlib.Core.List.{List, [], _∷_, List·Memᴰ, List·Memᴰ·not-nil, List·Memᴰ·cases-cons}
 use Rattle.rules.specs.Tables.{Tables}
 use Rattle.rules.specs.Sound.{sound}
 use Rattle.rules.specs.Order.{Verdict, Number, Prevented, Done, Outcome, outcome, after}
 use Rattle.rules.specs.Command.{Call, verdict, bufferOf, serve}
 use Rattle.rules.specs.Histories.{next, run, outcomes, History, begun, called}
 use Rattle.rules.proofs.Keeps.{sound-stays}
-use Rattle.rules.proofs.Untouched.{sound-number}
+use Rattle.rules.proofs.Numbers.{sound-number}
 
 -- the tables that an outcome leaves are those that the next call finds
 pub leaves-next : (t : Tables) (c : Call) → serve t c .tables ≡ next t c
@@ -44,3 +44,10 @@ pub history-numbers : {t u : Tables} {cs : List Call} {os : List Outcome} → Hi
 history-numbers begun s o m = absurd (List·Memᴰ·not-nil m)
 history-numbers (called {t = t} {c = c} {o = x} e hs) s o m =
     ⊎-elim (λ (i : o ≡ x). rw (i, e) (sound-number t c s)) (λ r. history-numbers hs (next-sound t c x e s) o r) (List·Memᴰ·cases-cons m)
+
+-- the rules themselves make a history of any calls
+pub history-made : (t : Tables) (cs : List Call) → History t cs (outcomes t cs) (run t cs)
+unfolding outcomes run
+history-made t [] = begun
+history-made t (c ∷ cs) =
+    called refl (subst (λ (u : Tables). History u cs (outcomes (next t c) cs) (run (next t c) cs)) (sym (leaves-next t c)) (history-made (next t c) cs))

@@ -354,41 +354,20 @@ pub count-reads : (t : Tables) (r : Request) → serve t (Command r) .count ≢ 
 unfolding serve bufferOf
 count-reads t r z = count-outcome (reading (r .block)) (r .host) t (r .buffer) _ (command-any t r) z
 
--- ---- number 1 is that of unsound tables alone
+-- ---- the steps end with a status, never with a number, and return no bytes but with GOOD
 
-NotOne : ℕ → Type 0
-NotOne n = n ≢ 1
+abbrev pub Stepped : Verdict → Type 0
+Stepped (Number n) = ⊥
+Stepped (Prevented n h) = ⊥
+Stepped (Done status bytes cs) = status ≢ GOOD → bytes ≡ []
 
-ended-number : (reads : Bool) (h : ℕ) (t : Tables) (buffer : List ℕ) (v : Verdict) → Ends NotOne reads h v → outcome t buffer v .number ≢ 1
-unfolding outcome NotOne
-ended-number reads h t buffer (Number n) e = e
-ended-number reads h t buffer (Prevented n g) e = e
-ended-number reads h t buffer (Done s bytes cs) e = omega arith
+stepped : (reads : Bool) (h : ℕ) (v : Verdict) → Ends (λ _. ⊥) reads h v → Stepped v
+stepped reads h (Number n) e = e
+stepped reads h (Prevented n g) e = e
+stepped reads h (Done s bytes cs) e = e .none
 
-silent-number : (t : Tables) (buffer : List ℕ) (v : Verdict) → Silent NotOne v → outcome t buffer v .number ≢ 1
-unfolding outcome NotOne
-silent-number t buffer (Number n) e = e
-silent-number t buffer (Prevented n g) e = e
-silent-number t buffer (Done s bytes cs) e = omega arith
-
-pub sound-number : (t : Tables) (c : Call) → sound t ≡ true → serve t c .number ≢ 1
-unfolding serve NotOne
-sound-number t c s = go c
-  where
-    never : sound t ≡ false → NotOne 1
-    never e = let z : _≡_ {A = ℕ} 0 1 = cc in absurd (omega arith)
-
-    event : (c : Call) → Event c → outcome t (bufferOf c) (verdict t c) .number ≢ 1
-    event c e =
-        silent-number t (bufferOf c) (verdict t c) (event-silent NotOne t c e never (omega arith) (omega arith) (omega arith) (omega arith))
-
-    go : (c : Call) → outcome t (bufferOf c) (verdict t c) .number ≢ 1
-    go (Command r) =
-        ended-number (reading (r .block)) (r .host) t _ (verdict t (Command r))
-        (command-ends NotOne t r never (omega arith) (omega arith) (omega arith) (omega arith))
-    go (Import a v) = event (Import a v) tt
-    go (Export a) = event (Export a) tt
-    go Reset = event Reset tt
+pub steps-end : (t : Tables) (h : ℕ) (block list : List ℕ) → Stepped (steps t h block list)
+steps-end t h block list = stepped (reading block) h (steps t h block list) (ends-steps (λ _. ⊥) t h block list)
 
 -- ---- what is returned fits the buffer
 

@@ -1,7 +1,7 @@
 -- Laws of `put`: what a write leaves as it was, what it puts there, and writes that may change places. Assumes nothing.
 use Prim.Native.Nat.{ℕ, zero, suc, _+_, _<_, _≤_, min}
 use native.Mathlib.Omega.{arith}
-use native.Mathlib.Nat.{not-suc-le-zero, add-zero}
+use native.Mathlib.Nat.{not-suc-le-zero, add-zero, zero-add}
 use mathlib.Core.Path.{_≡_, refl, ap, _∙_}
 use mathlib.Core.Logic.{_≢_}
 use mathlib.Core.Bool.{Bool, true, false}
@@ -96,6 +96,11 @@ cut-length (suc n) (x ∷ xs) = omega (arith, cut-length n xs)
 -- an allocation that is no longer is the length
 pub cut-within : (n : ℕ) (whole : List ℕ) → n ≤ length whole → length (cut n whole) ≡ n
 cut-within n whole h = let e : length (cut n whole) ≡ min n (length whole) = cut-length n whole in omega arith
+
+-- bytes written to the front of a buffer that has room for them
+pub put-front : (bytes buffer : List ℕ) → length bytes ≤ length buffer → put buffer 0 bytes ≡ bytes ++ drop (length bytes) buffer
+unfolding put
+put-front bytes buffer h = sets-eq bytes buffer 0 (omega arith) ∙ rw (zero-add (length bytes))
 
 -- what was written to the front, cut
 pub cut-put : (n : ℕ) (l whole : List ℕ) → length whole ≤ length l → n ≤ length whole → cut n (put l 0 whole) ≡ cut n whole

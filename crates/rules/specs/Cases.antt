@@ -50,6 +50,12 @@ pub data Name : Type 0 where
   unit-of-another-host : Name
   REQUEST-SENSE-clears : Name
   PREVENT : Name
+  MOVE-transport-held : Name
+  EXCHANGE-transport-held : Name
+  EXCHANGE-source-held : Name
+  EXCHANGE-first-held : Name
+  EXCHANGE-second-held : Name
+  EXCHANGE-held-by-itself : Name
   RESERVE-supersedes : Name
   RESERVE-names-twice : Name
   RESERVE-unit : Name
@@ -275,6 +281,41 @@ stepCases =
     }
     ∷ []
 
+-- step 6: "An element touched (named by MOVE or EXCHANGE, or the transport used) held by another host: 18h."
+
+-- the small library with a holder for its transport, and for 1000h, 1001h and 1002h
+unfoldable pub heldBy : ℕ → ℕ → ℕ → ℕ → List ℕ
+heldBy arm a b c =
+    element 0 0 arm 0 0 ++ empty ++ empty ++ element 1 0 a 0 0 ++ element 0 0 b 0 0 ++ element 2 0 c 0 0 ++ empty
+
+-- refused with 18h, which leaves all but host 1's sense
+unfoldable pub withheld : Name → List ℕ → List ℕ → Case
+withheld name elements block =
+    record {
+      name = name;
+      on = library (headOf 0 0 (senses 5 0x24 0x00) quiet quiet) elements;
+      call = asks block;
+      gives = ends 0x18 0 quietHead elements [];
+    }
+
+unfoldable pub touchCases : List Case
+touchCases =
+    withheld MOVE-transport-held (heldBy 2 0 0 0) (moveBlock 0x1000 0x0100)
+    ∷ withheld EXCHANGE-transport-held (heldBy 2 0 0 0) (exchangeBlock 0x1000 0x1002 0x1001)
+    ∷ withheld EXCHANGE-source-held (heldBy 0 2 0 0) (exchangeBlock 0x1000 0x1002 0x1001)
+    ∷ withheld EXCHANGE-first-held (heldBy 0 0 0 2) (exchangeBlock 0x1000 0x1002 0x1001)
+    ∷ withheld EXCHANGE-second-held (heldBy 0 0 2 0) (exchangeBlock 0x1000 0x1002 0x1001)
+    -- a host's own holds hinder nothing, and stay
+    ∷ record {
+      name = EXCHANGE-held-by-itself;
+      on = library quietHead (heldBy 1 1 1 1);
+      call = asks (exchangeBlock 0x1000 0x1002 0x1001);
+      gives =
+          ends 0x00 0 quietHead
+          (element 0 0 1 0 0 ++ empty ++ empty ++ element 0 0 1 0 0 ++ element 2 0x1002 1 0 0 ++ element 1 0x1000 1 0 0 ++ empty) [];
+    }
+    ∷ []
+
 unfoldable pub holdCases : List Case
 holdCases =
     record {
@@ -408,7 +449,7 @@ longCases =
 
 -- "P1 to P12 are one table", with the rows above
 unfoldable pub cases : List Case
-cases = moves ++ exchanges ++ cuts ++ readAll ++ shipped ++ numbers ++ eventNumbers ++ stepCases ++ holdCases ++ eventCases ++ modeCases ++ longCases
+cases = moves ++ exchanges ++ cuts ++ readAll ++ shipped ++ numbers ++ eventNumbers ++ stepCases ++ touchCases ++ holdCases ++ eventCases ++ modeCases ++ longCases
 
 -- ---- the test over all rows: the names of those whose outcome is another
 

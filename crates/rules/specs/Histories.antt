@@ -2,14 +2,14 @@
 -- of demand 3. Assumes nothing.
 use Prim.Native.Nat.{ℕ, zero, suc, _+_}
 use mathlib.Core.Path.{_≡_}
-use mathlib.Core.List.{List, [], _∷_, List·Memᴰ}
+use mathlib.Core.List.{List, [], _∷_, map, List·Memᴰ}
 use mathlib.Core.Bool.{Bool, true, false}
 use lib.Dec.{eqb}
 use Rattle.rules.specs.Choice.{when}
 use Rattle.rules.specs.Bytes.{word}
 use Rattle.rules.specs.Tables.{Tables, volume}
 use Rattle.rules.specs.Order.{Outcome, after, volumeOf}
-use Rattle.rules.specs.Command.{Request, Call, Command, Import, Export, Reset, verdict, serve}
+use Rattle.rules.specs.Command.{Request, Call, Command, Import, Export, Reset, blockFits, verdict, serve}
 use Rattle.rules.specs.Operation.{Operation, TestUnitReady, RequestSense, Reserve, Release, PreventAllow, MoveMedium, ExchangeMedium, ReadElementStatus, ModeSense, Unknown, operation}
 
 -- ---- calls one after the other, by the rules
@@ -75,20 +75,26 @@ pub record Reply : Type 0 where
   pub number : ℕ
   pub status : ℕ
   pub count : ℕ
+  pub preventers : ℕ
+  pub lowest : ℕ
   pub buffer : List ℕ
 
 unfoldable pub reply : Outcome → Reply
-reply o = record { number = o .number; status = o .status; count = o .count; buffer = o .buffer }
+reply o =
+    record { number = o .number; status = o .status; count = o .count; preventers = o .preventers; lowest = o .lowest; buffer = o .buffer }
 
--- requests one after the other, and the replies that host h gets
+-- of the outcomes of requests, what host h is told
+unfoldable pub toldTo : ℕ → List Request → List Outcome → List Reply
+toldTo h [] os = []
+toldTo h (r ∷ rs) [] = []
+toldTo h (r ∷ rs) (o ∷ os) = when (eqb (r .host) h) (reply o ∷ toldTo h rs os) (toldTo h rs os)
+
+-- requests one after the other: the tables after them, and the replies that host h gets
 unfoldable pub runRequests : Tables → List Request → Tables
-runRequests t [] = t
-runRequests t (r ∷ rs) = runRequests (next t (Command r)) rs
+runRequests t rs = run t (map Command rs)
 
 unfoldable pub replies : ℕ → Tables → List Request → List Reply
-replies h t [] = []
-replies h t (r ∷ rs) =
-    when (eqb (r .host) h) (reply (serve t (Command r)) ∷ replies h (next t (Command r)) rs) (replies h (next t (Command r)) rs)
+replies h t rs = toldTo h rs (outcomes t (map Command rs))
 
 -- "every mixing that keeps each host's order": zs has the requests of xs and of ys, each list in its own order
 pub data Mixing : List Request → List Request → List Request → Type 0 where
@@ -112,7 +118,7 @@ joins Unknown = false
 unfoldable pub mixes : List ℕ → Bool
 mixes block = joins (operation block)
 
--- the source and destination addresses that a block names
+-- the source and destination addresses of a block of each operation
 unfoldable pub namedBy : Operation → List ℕ → List ℕ
 namedBy TestUnitReady block = []
 namedBy RequestSense block = []
@@ -125,8 +131,9 @@ namedBy ReadElementStatus block = []
 namedBy ModeSense block = []
 namedBy Unknown block = []
 
+-- the source and destination addresses that a block names: one "of wrong length" (number 3) has no such bytes, and names nothing
 unfoldable pub named : List ℕ → List ℕ
-named block = namedBy (operation block) block
+named block = when (blockFits block) (namedBy (operation block) block) []
 
 -- each request is host h's, and one of the four commands
 pub data From (h : ℕ) : List Request → Type 0 where

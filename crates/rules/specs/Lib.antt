@@ -14,6 +14,7 @@ pub mod Mode
 pub mod Form
 pub mod Events
 pub mod Command
+pub mod Numbers
 pub mod Histories
 pub mod Small
 pub mod Cases

@@ -1,0 +1,52 @@
+// No second outcome fits an entry's statement: specs/ states it of what an entry hands back, proofs/ shows it. The functions here call an entry of each kind and
+// meet that statement by the entry's own, so that it is the entry's.
+use order::Reply;
+ghost use mathlib.Core.List.{[]};
+ghost use Rattle.rules.specs.Tables.{lent, others};
+ghost use Rattle.entries.specs.OnlyOne.{CommandEnds, ImportEnds, ExportEnds, ResetEnds};
+
+pub fn command<'a>(
+    head: &mut [u8],
+    elements: &mut [u8],
+    tags: &'a [u8],
+    blank: &'a [u8],
+    host: u32,
+    block: &[u8],
+    parameters: &[u8],
+    answer: &mut [u8],
+) -> Reply
+    ensures { λ r. ⌜ CommandEnds (lent (now (head .entry)) (now (elements .entry)) (others (now (tags .entry)) (now (blank .entry)))) host (now (block .entry)) (now (parameters .entry)) (now (answer .entry)) r (lent (now (head .exit)) (now (elements .exit)) (others (now (tags .entry)) (now (blank .entry)))) (now (answer .exit)) ⌝ }
+{
+    changer::smc_command(head, elements, tags, blank, host, block, parameters, answer)
+}
+
+pub fn import<'a>(
+    head: &mut [u8],
+    elements: &mut [u8],
+    tags: &'a [u8],
+    blank: &'a [u8],
+    address: u32,
+    volume: u32,
+) -> Reply
+    ensures { λ r. ⌜ ImportEnds (lent (now (head .entry)) (now (elements .entry)) (others (now (tags .entry)) (now (blank .entry)))) address volume r (lent (now (head .exit)) (now (elements .exit)) (others (now (tags .entry)) (now (blank .entry)))) [] ⌝ }
+{
+    changer::smc_import(head, elements, tags, blank, address, volume)
+}
+
+pub fn export<'a>(
+    head: &mut [u8],
+    elements: &mut [u8],
+    tags: &'a [u8],
+    blank: &'a [u8],
+    address: u32,
+) -> Reply
+    ensures { λ r. ⌜ ExportEnds (lent (now (head .entry)) (now (elements .entry)) (others (now (tags .entry)) (now (blank .entry)))) address r (lent (now (head .exit)) (now (elements .exit)) (others (now (tags .entry)) (now (blank .entry)))) [] ⌝ }
+{
+    changer::smc_export(head, elements, tags, blank, address)
+}
+
+pub fn reset<'a>(head: &mut [u8], elements: &mut [u8], tags: &'a [u8], blank: &'a [u8]) -> Reply
+    ensures { λ r. ⌜ ResetEnds (lent (now (head .entry)) (now (elements .entry)) (others (now (tags .entry)) (now (blank .entry)))) r (lent (now (head .exit)) (now (elements .exit)) (others (now (tags .entry)) (now (blank .entry)))) [] ⌝ }
+{
+    changer::smc_reset(head, elements, tags, blank)
+}
