@@ -14,10 +14,11 @@ use Rattle.rules.specs.Order.{Verdict, other, conflict, refused, InvalidField, 
 use Rattle.rules.specs.Form.{fault, formed}
 use Rattle.rules.specs.Command.{admitted}
 use Rattle.rules.proofs.Ladder.{differ-true}
-use Rattle.admission.specs.declared.Operation.{Operation as Declared}
+use Rattle.operation.specs.declared.Operation.{Operation as Declared}
+use Rattle.operation.specs.Meaning.{meaning}
 use Rattle.admission.specs.declared.Admission.{Admission}
 use Rattle.admission.specs.declared.Admission.the-variants.{Pending, Held, Faulty, Open}
-use Rattle.admission.specs.Admitting.{meaning, meetsAttention, meetsUnit, pending, held, admission, onAdmission}
+use Rattle.admission.specs.Admitting.{meetsAttention, meetsUnit, pending, held, admission, onAdmission}
 
 module _ (t : Tables) (h : ℕ) (v : Verdict) where
   -- steps 2 and 3 by the tests of the code

@@ -1,5 +1,1 @@
-pub mod Strays
-pub mod Lengths
-pub mod Hosts
-pub mod Lowest
 pub mod Admissions

@@ -1,36 +1,17 @@
--- The code's operations as the rules name them, and steps 2 to 4 as the code judges them. Assumes nothing.
+-- Steps 2 to 4 as the code judges them. Assumes nothing.
 use Prim.Native.Nat.{ℕ}
-use mathlib.Core.Path.{_≡_}
 use mathlib.Core.List.{List}
 use mathlib.Core.Bool.{Bool, true, false}
 use lib.Dec.{eqb}
 use Rattle.rules.specs.Choice.{when, differ}
 use Rattle.rules.specs.Tables.{Tables, unit, attention}
-use Rattle.rules.specs.Operation.{Operation, TestUnitReady, RequestSense, Reserve, Release, PreventAllow, MoveMedium, ExchangeMedium, ReadElementStatus, ModeSense, Unknown, operation}
+use Rattle.rules.specs.Operation.{Operation, TestUnitReady, RequestSense, Reserve, Release, PreventAllow, MoveMedium, ExchangeMedium, ReadElementStatus, ModeSense, Unknown}
 use Rattle.rules.specs.Order.{Verdict, InvalidField, other, afterAttention, conflict, refused}
 use Rattle.rules.specs.Form.{fault}
-use Rattle.rules.specs.Command.{blockFits}
-use Rattle.admission.specs.declared.Operation.{Operation as Declared}
-use Rattle.admission.specs.declared.Operation.the-variants as declared
+use Rattle.operation.specs.declared.Operation.{Operation as Declared}
+use Rattle.operation.specs.Meaning.{meaning}
 use Rattle.admission.specs.declared.Admission.{Admission}
 use Rattle.admission.specs.declared.Admission.the-variants.{Pending, Held, Faulty, Open}
-
-unfoldable pub meaning : Declared → Operation
-meaning declared.TestUnitReady = TestUnitReady
-meaning declared.RequestSense = RequestSense
-meaning declared.Reserve = Reserve
-meaning declared.Release = Release
-meaning declared.PreventAllow = PreventAllow
-meaning declared.MoveMedium = MoveMedium
-meaning declared.ExchangeMedium = ExchangeMedium
-meaning declared.ReadElementStatus = ReadElementStatus
-meaning declared.ModeSense = ModeSense
-meaning declared.Unknown = Unknown
-
--- the operation was decoded from the block, which has its length
-pub record Fitting (op : Declared) (block : List ℕ) : Type 0 where
-  pub decoded : meaning op ≡ operation block
-  pub fits : blockFits block ≡ true
 
 -- "2. Attention pending and not REQUEST SENSE"; step 1 comes before it
 unfoldable pub meetsAttention : Operation → Bool

@@ -1,28 +1,11 @@
-// What a command meets before it is carried out, judged by reading only: steps 1 to 4. The first byte is decoded here and nowhere else. House numbers 2 to 4
-// and step 4 have modules of their own.
-pub mod form;
-pub mod numbers;
-
+// What a command meets before it is carried out, judged by reading only: steps 1 to 4. Step 4 has a crate of its own.
+use operation::Operation;
 ghost use mathlib.Core.Path.{_≡_};
 ghost use Prim.Native.Nat.{_≤_};
 ghost use lib.ListN.{length};
 ghost use Rattle.rules.specs.Tables.{headSize, hosts};
-ghost use Rattle.rules.specs.Operation.{decoded};
-ghost use Rattle.admission.specs.Admitting.{meaning, meetsAttention, meetsUnit, pending, held, admission, Fitting};
-
-// "Eight commands", MODE SENSE, and any "Other first byte".
-pub enum Operation {
-    TestUnitReady,
-    RequestSense,
-    Reserve,
-    Release,
-    PreventAllow,
-    MoveMedium,
-    ExchangeMedium,
-    ReadElementStatus,
-    ModeSense,
-    Unknown,
-}
+ghost use Rattle.operation.specs.Meaning.{meaning, Fitting};
+ghost use Rattle.admission.specs.Admitting.{meetsAttention, meetsUnit, pending, held, admission};
 
 // What a command meets: attention of its host, a unit held by another, a field of the block that is at fault, at its byte; or nothing.
 pub enum Admission {
@@ -30,60 +13,6 @@ pub enum Admission {
     Held,
     Faulty(usize),
     Open,
-}
-
-// ---- the first bytes
-
-const TEST_UNIT_READY: u8 = 0x00;
-
-const REQUEST_SENSE: u8 = 0x03;
-
-const RESERVE: u8 = 0x16;
-
-const RELEASE: u8 = 0x17;
-
-const PREVENT_ALLOW: u8 = 0x1E;
-
-const MOVE_MEDIUM: u8 = 0xA5;
-
-const EXCHANGE_MEDIUM: u8 = 0xA6;
-
-const READ_ELEMENT_STATUS: u8 = 0xB8;
-
-const MODE_SENSE: u8 = 0x1A;
-
-// The operation of a first byte.
-pub fn decode(first: u8) -> Operation
-    ensures { λ r. ⌜ meaning r ≡ decoded first ⌝ }
-{
-    if first == TEST_UNIT_READY {
-        return Operation::TestUnitReady;
-    }
-    if first == REQUEST_SENSE {
-        return Operation::RequestSense;
-    }
-    if first == RESERVE {
-        return Operation::Reserve;
-    }
-    if first == RELEASE {
-        return Operation::Release;
-    }
-    if first == PREVENT_ALLOW {
-        return Operation::PreventAllow;
-    }
-    if first == MOVE_MEDIUM {
-        return Operation::MoveMedium;
-    }
-    if first == EXCHANGE_MEDIUM {
-        return Operation::ExchangeMedium;
-    }
-    if first == READ_ELEMENT_STATUS {
-        return Operation::ReadElementStatus;
-    }
-    if first == MODE_SENSE {
-        return Operation::ModeSense;
-    }
-    Operation::Unknown
 }
 
 // ---- steps 2 and 3

@@ -1,59 +1,15 @@
 // The files, one after the other.
+use case_reading::Got;
 use case_telling::Run;
-
-// The end of a file, which should have had a case.
-fn ended(run: Run, path: &[u8]) -> Run {
-    if run.begun {
-        return run;
-    }
-    unread(run, path, b"no case in it")
-}
-
-// A file that has failed as a whole.
-fn unread(run: Run, path: &[u8], why: &[u8]) -> Run {
-    case_telling::faults::say_file_fault(path, why);
-    let mut r = run;
-    r.failed = case_telling::more(r.failed);
-    r
-}
-
-pub enum Got {
-    Whole(usize),
-    TooLong,
-    Unread,
-    Unopened,
-}
-
-// Reads a whole file to the front of `file`.
-fn read_whole(path: &[u8], file: &mut [u8]) -> Got {
-    let fd = os::open_read(path);
-    if fd < 0 {
-        return Got::Unopened;
-    }
-    let n = io::read_full(fd, file);
-    let mut more = [0u8; 1];
-    let rest = libc::read(fd, &mut more);
-    libc::close(fd);
-    if rest > 0 {
-        return Got::TooLong;
-    }
-    if rest < 0 {
-        return Got::Unread;
-    }
-    Got::Whole(n)
-}
 
 fn run_file(run: Run, path: &[u8], file: &mut [u8], room: &mut [u8], bytes: &mut [u8]) -> Run {
     let r = case_telling::start(run.passed, run.failed);
-    match read_whole(path, file) {
-        Got::Whole(n) => ended(
-            case_lines::run_lines(r, path, case_rooms::part(file, 0, n), room, bytes),
-            path,
-        ),
-        Got::TooLong => unread(r, path, b"longer than 1,048,576 bytes"),
-        Got::Unread => unread(r, path, b"cannot be read"),
-        Got::Unopened => unread(r, path, b"cannot be opened"),
-    }
+    let got = case_reading::read_whole(path, file);
+    let Got::Whole(n) = got else {
+        return case_reading::missed(r, path, got);
+    };
+    let last = case_lines::run_lines(r, path, case_rooms::part(file, 0, n), room, bytes);
+    case_reading::ended(last, path)
 }
 
 // The i-th argument, which is a file's name.
@@ -61,7 +17,7 @@ fn run_argument(run: Run, i: usize, file: &mut [u8], room: &mut [u8], bytes: &mu
     let mut path = io::buffer();
     let k = os::arg(i, &mut path);
     if os::errno() != 0 {
-        return unread(run, b"an argument", b"longer than 4,096 bytes");
+        return case_reading::unread(run, b"an argument", b"longer than 4,096 bytes");
     }
     run_file(run, &path[..k], file, room, bytes)
 }

@@ -1,8 +1,10 @@
 // The lines that begin a case, good and bad.
+mod heading;
+
 use case_script::Line;
 use case_script::fault;
-use case_script::heading::Heading;
 use case_telling::Run;
+use heading::Heading;
 ghost use Prim.Native.Nat.{_≤_, _<_};
 ghost use lib.ListN.{length};
 
@@ -22,7 +24,7 @@ pub fn line_end(file: &[u8], at: usize) -> usize
 }
 
 pub fn is_one(line: &[u8]) -> bool {
-    match case_script::heading::read(line) {
+    match heading::read(line) {
         Heading::Nothing => false,
         Heading::Name(_, _) => true,
     }
@@ -30,7 +32,7 @@ pub fn is_one(line: &[u8]) -> bool {
 
 // Whether a line begins a case of this name.
 fn names(line: &[u8], name: &[u8]) -> bool {
-    match case_script::heading::read(line) {
+    match heading::read(line) {
         Heading::Nothing => false,
         Heading::Name(from, to) => {
             case_text::same(
@@ -58,7 +60,7 @@ fn stands_before(file: &[u8], until: usize, name: &[u8]) -> bool {
 // A case under all the words behind `case`; none is a name too, which is told by its line.
 fn opened(run: Run, file: &[u8], at: usize, text: &[u8]) -> Run {
     let ended = case_telling::finish(run, file);
-    match case_script::heading::read(text) {
+    match heading::read(text) {
         Heading::Nothing => case_telling::begin(ended, at, 0, 0),
         Heading::Name(from, to) => case_telling::begin(ended, at, from, to),
     }

@@ -1,7 +1,6 @@
 // The lines of a case file: what a line says, or why it can not be read.
 pub mod class;
 pub mod fault;
-pub mod heading;
 mod name;
 pub mod word;
 

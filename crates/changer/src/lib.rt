@@ -1,7 +1,5 @@
-// House numbers round the steps, and the entries that a C front end calls. An entry asks nothing of the values that it is
-// lent: any bytes, any lengths, any numbers. What a caller owes beside (valid slices that do not overlap, one call at a time) stands in include/smc.h.
-pub mod serving;
-
+// The entries that a C front end calls, each one call of `serving`. An entry asks nothing of the values that it is lent:
+// any bytes, any lengths, any numbers. What a caller owes beside (valid slices that do not overlap, one call at a time) stands in include/smc.h.
 use order::Reply;
 ghost use mathlib.Core.Path.{_≡_};
 ghost use mathlib.Core.List.{[]};
@@ -22,7 +20,7 @@ pub extern "C" fn smc_command<'a>(
 ) -> Reply
     ensures { λ r. ⌜ ended r (lent (now (head .exit)) (now (elements .exit)) (others (now (tags .entry)) (now (blank .entry)))) (now (answer .exit)) ≡ command (lent (now (head .entry)) (now (elements .entry)) (others (now (tags .entry)) (now (blank .entry)))) host (now (block .entry)) (now (parameters .entry)) (now (answer .entry)) ⌝ }
 {
-    serving::serve(head, elements, tags, blank, host, block, parameters, answer)
+    serving::command(head, elements, tags, blank, host, block, parameters, answer)
 }
 
 #[no_mangle]
@@ -38,7 +36,7 @@ pub extern "C" fn smc_test_unit_ready<'a>(
 ) -> Reply
     ensures { λ r. ⌜ ended r (lent (now (head .exit)) (now (elements .exit)) (others (now (tags .entry)) (now (blank .entry)))) (now (answer .exit)) ≡ command (lent (now (head .entry)) (now (elements .entry)) (others (now (tags .entry)) (now (blank .entry)))) host (now (block .entry)) (now (parameters .entry)) (now (answer .entry)) ⌝ }
 {
-    serving::serve(head, elements, tags, blank, host, block, parameters, answer)
+    serving::command(head, elements, tags, blank, host, block, parameters, answer)
 }
 
 #[no_mangle]
@@ -54,7 +52,7 @@ pub extern "C" fn smc_request_sense<'a>(
 ) -> Reply
     ensures { λ r. ⌜ ended r (lent (now (head .exit)) (now (elements .exit)) (others (now (tags .entry)) (now (blank .entry)))) (now (answer .exit)) ≡ command (lent (now (head .entry)) (now (elements .entry)) (others (now (tags .entry)) (now (blank .entry)))) host (now (block .entry)) (now (parameters .entry)) (now (answer .entry)) ⌝ }
 {
-    serving::serve(head, elements, tags, blank, host, block, parameters, answer)
+    serving::command(head, elements, tags, blank, host, block, parameters, answer)
 }
 
 #[no_mangle]
@@ -70,7 +68,7 @@ pub extern "C" fn smc_reserve<'a>(
 ) -> Reply
     ensures { λ r. ⌜ ended r (lent (now (head .exit)) (now (elements .exit)) (others (now (tags .entry)) (now (blank .entry)))) (now (answer .exit)) ≡ command (lent (now (head .entry)) (now (elements .entry)) (others (now (tags .entry)) (now (blank .entry)))) host (now (block .entry)) (now (parameters .entry)) (now (answer .entry)) ⌝ }
 {
-    serving::serve(head, elements, tags, blank, host, block, parameters, answer)
+    serving::command(head, elements, tags, blank, host, block, parameters, answer)
 }
 
 #[no_mangle]
@@ -86,7 +84,7 @@ pub extern "C" fn smc_release<'a>(
 ) -> Reply
     ensures { λ r. ⌜ ended r (lent (now (head .exit)) (now (elements .exit)) (others (now (tags .entry)) (now (blank .entry)))) (now (answer .exit)) ≡ command (lent (now (head .entry)) (now (elements .entry)) (others (now (tags .entry)) (now (blank .entry)))) host (now (block .entry)) (now (parameters .entry)) (now (answer .entry)) ⌝ }
 {
-    serving::serve(head, elements, tags, blank, host, block, parameters, answer)
+    serving::command(head, elements, tags, blank, host, block, parameters, answer)
 }
 
 #[no_mangle]
@@ -102,7 +100,7 @@ pub extern "C" fn smc_prevent_allow<'a>(
 ) -> Reply
     ensures { λ r. ⌜ ended r (lent (now (head .exit)) (now (elements .exit)) (others (now (tags .entry)) (now (blank .entry)))) (now (answer .exit)) ≡ command (lent (now (head .entry)) (now (elements .entry)) (others (now (tags .entry)) (now (blank .entry)))) host (now (block .entry)) (now (parameters .entry)) (now (answer .entry)) ⌝ }
 {
-    serving::serve(head, elements, tags, blank, host, block, parameters, answer)
+    serving::command(head, elements, tags, blank, host, block, parameters, answer)
 }
 
 #[no_mangle]
@@ -118,7 +116,7 @@ pub extern "C" fn smc_move_medium<'a>(
 ) -> Reply
     ensures { λ r. ⌜ ended r (lent (now (head .exit)) (now (elements .exit)) (others (now (tags .entry)) (now (blank .entry)))) (now (answer .exit)) ≡ command (lent (now (head .entry)) (now (elements .entry)) (others (now (tags .entry)) (now (blank .entry)))) host (now (block .entry)) (now (parameters .entry)) (now (answer .entry)) ⌝ }
 {
-    serving::serve(head, elements, tags, blank, host, block, parameters, answer)
+    serving::command(head, elements, tags, blank, host, block, parameters, answer)
 }
 
 #[no_mangle]
@@ -134,7 +132,7 @@ pub extern "C" fn smc_exchange_medium<'a>(
 ) -> Reply
     ensures { λ r. ⌜ ended r (lent (now (head .exit)) (now (elements .exit)) (others (now (tags .entry)) (now (blank .entry)))) (now (answer .exit)) ≡ command (lent (now (head .entry)) (now (elements .entry)) (others (now (tags .entry)) (now (blank .entry)))) host (now (block .entry)) (now (parameters .entry)) (now (answer .entry)) ⌝ }
 {
-    serving::serve(head, elements, tags, blank, host, block, parameters, answer)
+    serving::command(head, elements, tags, blank, host, block, parameters, answer)
 }
 
 #[no_mangle]
@@ -150,7 +148,7 @@ pub extern "C" fn smc_read_element_status<'a>(
 ) -> Reply
     ensures { λ r. ⌜ ended r (lent (now (head .exit)) (now (elements .exit)) (others (now (tags .entry)) (now (blank .entry)))) (now (answer .exit)) ≡ command (lent (now (head .entry)) (now (elements .entry)) (others (now (tags .entry)) (now (blank .entry)))) host (now (block .entry)) (now (parameters .entry)) (now (answer .entry)) ⌝ }
 {
-    serving::serve(head, elements, tags, blank, host, block, parameters, answer)
+    serving::command(head, elements, tags, blank, host, block, parameters, answer)
 }
 
 #[no_mangle]
@@ -166,7 +164,7 @@ pub extern "C" fn smc_mode_sense<'a>(
 ) -> Reply
     ensures { λ r. ⌜ ended r (lent (now (head .exit)) (now (elements .exit)) (others (now (tags .entry)) (now (blank .entry)))) (now (answer .exit)) ≡ command (lent (now (head .entry)) (now (elements .entry)) (others (now (tags .entry)) (now (blank .entry)))) host (now (block .entry)) (now (parameters .entry)) (now (answer .entry)) ⌝ }
 {
-    serving::serve(head, elements, tags, blank, host, block, parameters, answer)
+    serving::command(head, elements, tags, blank, host, block, parameters, answer)
 }
 
 #[no_mangle]
@@ -180,12 +178,7 @@ pub extern "C" fn smc_import<'a>(
 ) -> Reply
     ensures { λ r. ⌜ ended r (lent (now (head .exit)) (now (elements .exit)) (others (now (tags .entry)) (now (blank .entry)))) [] ≡ import (lent (now (head .entry)) (now (elements .entry)) (others (now (tags .entry)) (now (blank .entry)))) address volume ⌝ }
 {
-    let checked = sound::check(head, elements, tags, blank);
-    if !checked.sound {
-        return order::numbered(1);
-    }
-    let runs = checked.runs;
-    events::import(runs, head, elements, tags, address, volume)
+    serving::event::import(head, elements, tags, blank, address, volume)
 }
 
 #[no_mangle]
@@ -198,12 +191,7 @@ pub extern "C" fn smc_export<'a>(
 ) -> Reply
     ensures { λ r. ⌜ ended r (lent (now (head .exit)) (now (elements .exit)) (others (now (tags .entry)) (now (blank .entry)))) [] ≡ export (lent (now (head .entry)) (now (elements .entry)) (others (now (tags .entry)) (now (blank .entry)))) address ⌝ }
 {
-    let checked = sound::check(head, elements, tags, blank);
-    if !checked.sound {
-        return order::numbered(1);
-    }
-    let runs = checked.runs;
-    events::export(runs, head, elements, address)
+    serving::event::export(head, elements, tags, blank, address)
 }
 
 #[no_mangle]
@@ -215,9 +203,5 @@ pub extern "C" fn smc_reset<'a>(
 ) -> Reply
     ensures { λ r. ⌜ ended r (lent (now (head .exit)) (now (elements .exit)) (others (now (tags .entry)) (now (blank .entry)))) [] ≡ reset (lent (now (head .entry)) (now (elements .entry)) (others (now (tags .entry)) (now (blank .entry)))) ⌝ }
 {
-    let checked = sound::check(head, elements, tags, blank);
-    if !checked.sound {
-        return order::numbered(1);
-    }
-    events::reset(head, elements)
+    serving::event::reset(head, elements, tags, blank)
 }

@@ -11,7 +11,7 @@ use Rattle.rules.specs.Order.{GOOD, outcome}
 use Rattle.rules.specs.Events.{done, restartedFrom, resetting}
 use Rattle.order.specs.declared.Reply.{Reply}
 use Rattle.order.specs.Ending.{ended, told}
-use Rattle.events.specs.Judged.{restartedAt}
+use Rattle.events.specs.Restarted.{restartedAt}
 
 pub restarted-is : (n h : ℕ) (head elements : List ℕ) (rest : Rest)
     → lent (each restartedAt n h head) elements rest ≡ changes (restartedFrom n h) (lent head elements rest)

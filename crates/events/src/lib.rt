@@ -1,9 +1,8 @@
-// The three events: import, export and reset. House number 1 is judged before they are called; numbers 6 to 9 are judged here.
+// The three events: import, export and reset. House number 1 is judged before they are called; numbers 6 to 9 in a crate of their own.
 use frees::Whose;
 use order::Reply;
-use tables::Found;
+use ports::Ruling;
 use tables::Range;
-use tables::Types;
 ghost use mathlib.Core.Path.{_≡_};
 ghost use mathlib.Core.Bool.{true};
 ghost use mathlib.Core.List.{List, []};
@@ -12,110 +11,10 @@ ghost use lib.ListN.{length};
 ghost use Rattle.rules.specs.Tables.{headSize, hosts, places, lent, changes, announcedTo, announced, Rest};
 ghost use Rattle.rules.specs.Sound.{sound};
 ghost use Rattle.rules.specs.Order.{outcome};
-ghost use Rattle.rules.specs.Events.{present as presentIn, wrongVolume, importing, exporting, restartedFrom, resetting};
+ghost use Rattle.rules.specs.Events.{importing, exporting, restartedFrom, resetting};
 ghost use Rattle.order.specs.Ending.{ended};
-ghost use Rattle.events.specs.Judged.{preventedBy, restartedAt, meaning, Within, Ported, Importable};
-
-// What import or export comes to: a house number, number 7 with how many hosts prevent removal and the lowest such host, or an element
-// to fill with a volume (0 empties it) and a mark.
-pub enum Ruling {
-    Number(u8),
-    Prevented(u8, u8),
-    Fill { place: usize, volume: u16, mark: u8 },
-}
-
-// "how many hosts prevent removal and the lowest such host"
-fn prevented(mask: u8) -> Ruling
-    requires { ⌜ (mask ≡ 0 → ⊥) ⌝ }
-    ensures { λ r. ⌜ r ≡ preventedBy mask ⌝ }
-{
-    Ruling::Prevented(tables::mask::preventers(mask), tables::mask::lowest(mask))
-}
-
-// "already in the library"
-fn present(elements: &[u8], volume: u32) -> bool
-    ensures { λ r. ⌜ r ≡ presentIn (now (elements .entry)) volume ⌝ }
-{
-    let n = tables::element::places(elements);
-    let mut place: usize = 0;
-    while place < n {
-        if tables::element::volume(elements, place) as u32 == volume {
-            return true;
-        }
-        place += 1;
-    }
-    false
-}
-
-// "volume number 0, above V, or already in the library"
-fn wrong_volume(elements: &[u8], tags: &[u8], volume: u32) -> bool
-    ensures { λ r. ⌜ ((head : List ℕ) (rest : Rest) → rest .tags ≡ now (tags .entry) → r ≡ wrongVolume (lent head (now (elements .entry)) rest) volume) ⌝ }
-{
-    if volume == 0 {
-        return true;
-    }
-    if tables::volumes(tags) < volume as usize {
-        return true;
-    }
-    present(elements, volume)
-}
-
-// Import, judged by reading only: numbers 6 to 9 in this order.
-fn judge_import(
-    runs: [Range; 4],
-    head: &[u8],
-    elements: &[u8],
-    tags: &[u8],
-    address: u32,
-    volume: u32,
-) -> Ruling
-    requires { ⌜ Importable runs (now head) (now elements) (now tags) ⌝ }
-    ensures { λ r. ⌜ ((rest : Rest) → rest .tags ≡ now (tags .entry) → sound (lent (now (head .entry)) (now (elements .entry)) rest) ≡ true → meaning r ≡ importing (lent (now (head .entry)) (now (elements .entry)) rest) address volume) ⌝ }
-    ensures { λ r. ⌜ Within (places (now (elements .entry))) r ⌝ }
-{
-    let Found::At(to) = tables::find(runs, address, Types::Port) else {
-        return Ruling::Number(6);
-    };
-    let mask = tables::head::mask(head);
-    if mask != 0 {
-        return prevented(mask);
-    }
-    if tables::element::volume(elements, to) != 0 {
-        return Ruling::Number(8);
-    }
-    if wrong_volume(elements, tags, volume) {
-        return Ruling::Number(9);
-    }
-    let number = volume as u16;
-    Ruling::Fill {
-        place: to,
-        volume: number,
-        mark: 1,
-    }
-}
-
-// Export, judged by reading only: numbers 6 to 8 in this order.
-fn judge_export(runs: [Range; 4], head: &[u8], elements: &[u8], address: u32) -> Ruling
-    requires { ⌜ Ported runs (now head) (now elements) ⌝ }
-    ensures { λ r. ⌜ ((rest : Rest) → sound (lent (now (head .entry)) (now (elements .entry)) rest) ≡ true → meaning r ≡ exporting (lent (now (head .entry)) (now (elements .entry)) rest) address) ⌝ }
-    ensures { λ r. ⌜ Within (places (now (elements .entry))) r ⌝ }
-{
-    let Found::At(from) = tables::find(runs, address, Types::Port) else {
-        return Ruling::Number(6);
-    };
-    let mask = tables::head::mask(head);
-    if mask != 0 {
-        return prevented(mask);
-    }
-    if tables::element::volume(elements, from) == 0 {
-        return Ruling::Number(8);
-    }
-    Ruling::Fill {
-        place: from,
-        volume: 0,
-        mark: 0,
-    }
-}
+ghost use Rattle.ports.specs.Judged.{meaning, Within, Ported, Importable};
+ghost use Rattle.events.specs.Restarted.{restartedAt};
 
 // One host's attention, if it has none.
 fn announce_to(head: &mut [u8], host: u8, asc: u8, ascq: u8)
@@ -179,7 +78,7 @@ pub fn import(
     requires { ⌜ Importable runs (now head) (now elements) (now tags) ⌝ }
     ensures { λ r. ⌜ ((rest : Rest) → rest .tags ≡ now (tags .entry) → sound (lent (now (head .entry)) (now (elements .entry)) rest) ≡ true → ended r (lent (now (head .exit)) (now (elements .exit)) rest) [] ≡ outcome (lent (now (head .entry)) (now (elements .entry)) rest) [] (importing (lent (now (head .entry)) (now (elements .entry)) rest) address volume)) ⌝ }
 {
-    let ruling = judge_import(runs, head, elements, tags, address, volume);
+    let ruling = ports::judge_import(runs, head, elements, tags, address, volume);
     carry_out(head, elements, ruling)
 }
 
@@ -188,7 +87,7 @@ pub fn export(runs: [Range; 4], head: &mut [u8], elements: &mut [u8], address: u
     requires { ⌜ Ported runs (now head) (now elements) ⌝ }
     ensures { λ r. ⌜ ((rest : Rest) → sound (lent (now (head .entry)) (now (elements .entry)) rest) ≡ true → ended r (lent (now (head .exit)) (now (elements .exit)) rest) [] ≡ outcome (lent (now (head .entry)) (now (elements .entry)) rest) [] (exporting (lent (now (head .entry)) (now (elements .entry)) rest) address)) ⌝ }
 {
-    let ruling = judge_export(runs, head, elements, address);
+    let ruling = ports::judge_export(runs, head, elements, address);
     carry_out(head, elements, ruling)
 }
 

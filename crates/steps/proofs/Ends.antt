@@ -10,10 +10,11 @@ use Rattle.rules.specs.Tables.{Tables, attention}
 use Rattle.rules.specs.Order.{Verdict, fits, afterAttention, conflict, refused, InvalidField}
 use Rattle.rules.specs.Command.{act, admitted, stepsOf}
 use Rattle.rules.proofs.Untouched.{conflict-fits, refused-fits}
-use Rattle.admission.specs.declared.Operation.{Operation}
+use Rattle.operation.specs.declared.Operation.{Operation}
+use Rattle.operation.specs.Meaning.{meaning}
 use Rattle.admission.specs.declared.Admission.{Admission}
 use Rattle.admission.specs.declared.Admission.the-variants.{Pending, Held, Faulty, Open}
-use Rattle.admission.specs.Admitting.{meaning, admission, onAdmission}
+use Rattle.admission.specs.Admitting.{admission, onAdmission}
 use Rattle.admission.proofs.Admissions.{is-pending, admission-is}
 
 -- the command that was chosen

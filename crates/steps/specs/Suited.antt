@@ -6,8 +6,8 @@ use lib.ListN.{length}
 use Rattle.rules.specs.Tables.{elementSize, hosts}
 use Rattle.rules.specs.Roster.{roster}
 use Rattle.tables.specs.declared.Range.{Range}
-use Rattle.admission.specs.declared.Operation.{Operation}
-use Rattle.admission.specs.Admitting.{Fitting}
+use Rattle.operation.specs.declared.Operation.{Operation}
+use Rattle.operation.specs.Meaning.{Fitting}
 use Rattle.moves.specs.Judged.{Ready}
 use Rattle.pages.specs.Pages.{stock}
 use Rattle.listing.specs.Counting.{Readable}

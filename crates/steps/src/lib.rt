@@ -1,6 +1,6 @@
 // Steps 1 to 8, for tables that suit, as sound ones do, a host from 1 to 8 and a block of its length.
 use admission::Admission;
-use admission::Operation;
+use operation::Operation;
 use order::Cause;
 use order::Reply;
 use tables::Range;
@@ -13,7 +13,7 @@ ghost use Rattle.rules.specs.Order.{Verdict, outcome, fits, afterAttention};
 ghost use Rattle.rules.specs.Form.{fault};
 ghost use Rattle.rules.specs.Command.{act, stepsOf};
 ghost use Rattle.order.specs.Ending.{ended, Lends};
-ghost use Rattle.admission.specs.Admitting.{meaning};
+ghost use Rattle.operation.specs.Meaning.{meaning};
 ghost use Rattle.steps.specs.Suited.{Served};
 
 // "6 with its codes, attention cleared", whatever would come after.

@@ -1,5 +1,6 @@
 -- `admission::meets_attention` meets its contract. Assumes nothing.
-use Rattle.admission.specs.Admitting.{meaning, meetsAttention}
+use Rattle.operation.specs.Meaning.{meaning}
+use Rattle.admission.specs.Admitting.{meetsAttention}
 use borrow.Author.Needs.{needs}
 use Rattle.admission.proofs.meets_attention.Statement.{statement}
 use Rattle.admission.proofs.meets_attention.Tie as tie

@@ -1,5 +1,6 @@
 -- `admission::meets_unit` meets its contract. Assumes nothing.
-use Rattle.admission.specs.Admitting.{meaning, meetsUnit}
+use Rattle.operation.specs.Meaning.{meaning}
+use Rattle.admission.specs.Admitting.{meetsUnit}
 use borrow.Author.Needs.{needs}
 use Rattle.admission.proofs.meets_unit.Statement.{statement}
 use Rattle.admission.proofs.meets_unit.Tie as tie

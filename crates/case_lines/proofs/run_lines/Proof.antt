@@ -12,8 +12,8 @@ Inv-loop path file room₀ bytes₀ progress₀ at₀ room bytes progress at = (
 abbrev μ-loop : tie.MeasureT-loop
 μ-loop path file room₀ bytes₀ progress₀ at₀ room bytes progress at = length file - at
 
-fresh-requires : tie.Need-fresh-requires Inv-loop μ-loop
-fresh-requires c κs = tt
+first-requires : tie.Need-first-requires Inv-loop μ-loop
+first-requires c κs = tt
 
 loop-holds : tie.Need-loop-holds Inv-loop μ-loop
 loop-holds c = (refl, refl)
@@ -61,7 +61,7 @@ run-lines-spec =
     (tie.spec
     Inv-loop
     μ-loop
-    fresh-requires
+    first-requires
     loop-holds
     line-end-requires
     line-requires

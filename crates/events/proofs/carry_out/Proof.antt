@@ -4,7 +4,7 @@ use Rattle.rules.specs.Bytes.{put}
 use Rattle.rules.specs.Tables.{places, changes, change, inHead, inElements}
 use Rattle.rules.specs.Order.{outcome}
 use Rattle.rules.specs.Events.{done}
-use Rattle.events.specs.Judged.{meaning}
+use Rattle.ports.specs.Judged.{meaning}
 use borrow.Author.Needs.{needs}
 use Rattle.events.proofs.carry_out.Statement.{statement}
 use Rattle.events.proofs.carry_out.Tie as tie

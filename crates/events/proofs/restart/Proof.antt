@@ -3,7 +3,7 @@ use Prim.Native.Nat.{_+_, _-_, _≤_}
 use native.Mathlib.Omega.{arith}
 use Rattle.rules.proofs.Loops.{Turned, turned-none, turned-more, turned-all}
 use Rattle.rules.specs.Tables.{hosts}
-use Rattle.events.specs.Judged.{restartedAt}
+use Rattle.events.specs.Restarted.{restartedAt}
 use Rattle.events.proofs.Resets.{restarted-is}
 use Rattle.events.proofs.restart.Statement.{statement}
 use Rattle.events.proofs.restart.Tie as tie

@@ -2,7 +2,7 @@
 use mathlib.Core.Path.{_∙_}
 use Rattle.rules.specs.Tables.{changes, change, inHead}
 use Rattle.rules.specs.Events.{restartedFrom}
-use Rattle.events.specs.Judged.{restartedAt}
+use Rattle.events.specs.Restarted.{restartedAt}
 use borrow.Author.Needs.{needs}
 use Rattle.events.proofs.restart_host.Statement.{statement}
 use Rattle.events.proofs.restart_host.Tie as tie

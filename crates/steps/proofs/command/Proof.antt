@@ -7,8 +7,8 @@ use Rattle.rules.proofs.Untouched.{good-fits, move-fits, exchange-fits, reserve
 use Rattle.rules.proofs.Rungs.{ends-as}
 use Rattle.rules.proofs.Pages.{answered}
 use Rattle.order.specs.Ending.{reason}
-use Rattle.admission.specs.Admitting.{meaning}
-use Rattle.admission.proofs.Lengths.{sized}
+use Rattle.operation.specs.Meaning.{meaning}
+use Rattle.operation.proofs.Lengths.{sized}
 use Rattle.steps.proofs.Ends.{acts}
 use borrow.Author.Needs.{needs}
 use Rattle.steps.proofs.command.Statement.{statement}

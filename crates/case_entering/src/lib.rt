@@ -1,0 +1,35 @@
+// How a case enters the core: by the entry that its line names. What that leaves is the rules' own outcome.
+use case_script::word;
+use order::Reply;
+ghost use mathlib.Core.Path.{_≡_};
+ghost use Rattle.rules.specs.Tables.{lent, others};
+ghost use Rattle.order.specs.Ending.{ended};
+ghost use Rattle.case_entering.specs.Called.{called};
+
+// The call of the core that a line names, on the tables as they lie.
+pub fn enter<'a>(
+    what: u8,
+    first: u32,
+    second: u32,
+    host: u32,
+    head: &mut [u8],
+    elements: &mut [u8],
+    tags: &'a [u8],
+    blank: &'a [u8],
+    block: &[u8],
+    parameters: &[u8],
+    answer: &mut [u8],
+) -> Reply
+    ensures { λ r. ⌜ ended r (lent (now (head .exit)) (now (elements .exit)) (others (now (tags .entry)) (now (blank .entry)))) (now (answer .exit)) ≡ called what first second (lent (now (head .entry)) (now (elements .entry)) (others (now (tags .entry)) (now (blank .entry)))) host (now (block .entry)) (now (parameters .entry)) (now (answer .entry)) ⌝ }
+{
+    if what == word::COMMAND {
+        return changer::smc_command(head, elements, tags, blank, host, block, parameters, answer);
+    }
+    if what == word::IMPORT {
+        return changer::smc_import(head, elements, tags, blank, first, second);
+    }
+    if what == word::EXPORT {
+        return changer::smc_export(head, elements, tags, blank, first);
+    }
+    changer::smc_reset(head, elements, tags, blank)
+}

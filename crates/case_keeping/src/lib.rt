@@ -1,0 +1,102 @@
+// Around a call: what it is given, what is kept from before it, what it left, and the state after it.
+use case_rooms::Difference;
+use case_rooms::Effect;
+use case_rooms::Finding;
+use case_rooms::State;
+use case_rooms::parts;
+use case_script::Line;
+use case_script::fault;
+use case_script::word;
+use order::Reply;
+ghost use mathlib.Core.Path.{_≡_};
+ghost use Rattle.case_rooms.specs.Alike.{pastCount};
+
+// "the bytes past the count are still EEh"
+pub fn past(answer: &[u8], count: u32) -> Finding
+    ensures { λ r. ⌜ r ≡ pastCount (now (answer .entry)) count ⌝ }
+{
+    let rest = case_rooms::part(answer, count as usize, answer.len());
+    let i = case_rooms::untouched(rest);
+    if i < rest.len() {
+        return Finding::Differs(Difference {
+            what: word::COMMAND,
+            at: (count as usize) + i,
+            found: case_rooms::wide(rest[i]),
+            expected: case_rooms::wide(case_rooms::UNTOUCHED),
+        });
+    }
+    Finding::Done
+}
+
+// The state after a call: the parameters were "of the next command alone".
+pub fn after(state: State, what: u8, reply: Reply) -> State {
+    let mut s = state;
+    if what == word::COMMAND {
+        s.parameters = 0;
+    }
+    s.called = true;
+    s.reply = reply;
+    s.answered = state.buffer;
+    let sizes = state.sizes;
+    s.kept = sizes;
+    s
+}
+
+// The tables as they are before a call, for `kept`.
+pub fn keep(room: &mut [u8], head: &[u8], elements: &[u8]) {
+    case_rooms::write(room, parts::KEPT_HEAD_AT, head);
+    case_rooms::write(room, parts::KEPT_ELEMENTS_AT, elements);
+}
+
+// What a call left.
+pub fn take_back(state: State, room: &mut [u8], head: &[u8], elements: &[u8], answer: &[u8]) {
+    case_rooms::write(
+        room,
+        parts::HEAD_AT,
+        case_rooms::part(head, 0, case_rooms::length_of(state, parts::HEAD)),
+    );
+    case_rooms::write(
+        room,
+        parts::ELEMENTS_AT,
+        case_rooms::part(elements, 0, case_rooms::length_of(state, parts::ELEMENTS)),
+    );
+    case_rooms::write(
+        room,
+        parts::ANSWER_AT,
+        case_rooms::part(answer, 0, state.buffer),
+    );
+}
+
+// "the host of the commands that follow"; "the length of the answer buffer of the commands that follow"
+fn ahead(state: State, what: u8, n: u32) -> Effect {
+    let mut s = state;
+    if what == word::HOST {
+        s.host = n;
+        return case_rooms::done(s);
+    }
+    let buffer = n as usize;
+    if parts::ANSWER_MOST < buffer {
+        return case_rooms::refuse(state, fault::TOO_LARGE);
+    }
+    s.buffer = buffer;
+    case_rooms::done(s)
+}
+
+// "the parameter bytes of the next command alone"
+fn parameters(state: State, room: &mut [u8], bytes: &[u8]) -> Effect {
+    if parts::PARAMETERS_MOST < bytes.len() {
+        return case_rooms::refuse(state, fault::TOO_LARGE);
+    }
+    case_rooms::write(room, parts::PARAMETERS_AT, bytes);
+    let mut s = state;
+    s.parameters = bytes.len();
+    case_rooms::done(s)
+}
+
+// The lines that say what the calls that follow are given.
+pub fn prepare(state: State, line: Line, room: &mut [u8], bytes: &[u8]) -> Effect {
+    if line.word == word::PARAMETERS {
+        return parameters(state, room, bytes);
+    }
+    ahead(state, line.word, line.first)
+}

@@ -1,0 +1,2 @@
+pub mod Strays
+pub mod Lowest

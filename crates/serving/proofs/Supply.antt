@@ -1,0 +1,19 @@
+-- What sound tables supply to the events. Assumes nothing.
+use Prim.Native.Nat.{ℕ}
+use mathlib.Core.Path.{_≡_}
+use mathlib.Core.Bool.{true}
+use mathlib.Core.List.{List}
+use Rattle.rules.specs.Tables.{Rest, lent}
+use Rattle.rules.specs.Sound.{sound}
+use Rattle.rules.proofs.Soundness.{sound-true}
+use Rattle.tables.specs.declared.Range.{Range}
+use Rattle.tables.specs.Ranges.{Runs}
+use Rattle.ports.specs.Judged.{Ported, Importable}
+use Rattle.steps.proofs.Supply.{head-room, records}
+
+module _ (head elements : List ℕ) (rest : Rest) (s : sound (lent head elements rest) ≡ true) (runs : List Range) (is : Runs runs head) where
+  pub ported : Ported runs head elements
+  ported = record { head-long = head-room head elements rest s; runs-are = is; elements-long = records head elements rest s }
+
+  pub importable : Importable runs head elements (rest .tags)
+  importable = record { ported = ported; volumes-few = sound-true (lent head elements rest) s .rest-fits .labels-fit .volumes-most }
