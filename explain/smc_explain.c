@@ -3,7 +3,7 @@
 #include <stdbool.h>
 #include <stdio.h>
 
-enum { RANGES = 4, TRANSPORT = 1, PORT = 3 };
+enum { RANGES = 4, TRANSPORT = 1, STORAGE = 2, PORT = 3 };
 enum { HOSTS = 8, MOST_ELEMENTS = 512, MOST_TRANSPORTS = 127, MOST_VOLUMES = 512, MOST_KEY = 15, BEHIND_LAST = 65536 };
 enum { UNIT = 16, RECORDS = 18, RECORD_BYTES = 5 };
 
@@ -125,16 +125,14 @@ static smc_fault hosts(const library *l)
 
 /* ---- the elements ---- */
 
-static bool is_element(const library *l, unsigned address)
+static bool is_storage(const library *l, unsigned address)
 {
-    for (const range *r = l->ranges; r < l->ranges + RANGES; r++)
-        if (address >= r->first && address < r->first + r->count)
-            return true;
-    return false;
+    const range *r = l->ranges + STORAGE - 1;
+    return address >= r->first && address < r->first + r->count;
 }
 
-/* "Each volume number is at most V", "Transports are empty. A source is 0 or an element's address, and 0 where empty. The mark is 1 only on a
- * full import/export element, else 0." */
+/* "Each volume number is at most V", "Transports are empty"; a source is "only a storage address or 0", "and 0 where empty. The mark is 1 only on
+ * a full import/export element, else 0." */
 static smc_fault stock(const library *l, unsigned place)
 {
     element e = element_at(l, place);
@@ -145,7 +143,7 @@ static smc_fault stock(const library *l, unsigned place)
         return of_element(l, SMC_CLAUSE_TRANSPORT_FULL, place, e.volume, 0);
     if (e.source != 0 && e.volume == 0)
         return of_element(l, SMC_CLAUSE_SOURCE_WHERE_EMPTY, place, e.source, 0);
-    if (e.source != 0 && !is_element(l, e.source))
+    if (e.source != 0 && !is_storage(l, e.source))
         return of_element(l, SMC_CLAUSE_SOURCE_ADDRESS, place, e.source, 0);
     if (e.mark != 0 && (e.mark != 1 || kind != PORT || e.volume == 0))
         return of_element(l, SMC_CLAUSE_MARK_PLACE, place, e.mark, 0);
@@ -247,7 +245,7 @@ static const struct {
     [SMC_CLAUSE_VOLUME_NUMBER] = {"a volume number is at most the number of tags", "volume", DECIMAL},
     [SMC_CLAUSE_TRANSPORT_FULL] = {"transports are empty", "volume", DECIMAL},
     [SMC_CLAUSE_SOURCE_WHERE_EMPTY] = {"an empty element has source 0", "source", HEXADECIMAL},
-    [SMC_CLAUSE_SOURCE_ADDRESS] = {"a source is 0 or an element's address", "source", HEXADECIMAL},
+    [SMC_CLAUSE_SOURCE_ADDRESS] = {"a source is 0 or a storage element's address", "source", HEXADECIMAL},
     [SMC_CLAUSE_MARK_PLACE] = {"the mark is 1 only on a full import/export element, else 0", "mark", DECIMAL},
     [SMC_CLAUSE_HOLDER_NUMBER] = {"a holder is at most 8", "holder", DECIMAL},
     [SMC_CLAUSE_ID_WITHOUT_HOLDER] = {"the reservation id is 0 where there is no holder", "id", DECIMAL},

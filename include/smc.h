@@ -102,7 +102,7 @@ enum { SMC_TRANSPORT = 1, SMC_STORAGE = 2, SMC_IMPORT_EXPORT = 3, SMC_DRIVE = 4 
 /* A record of elements. */
 #define SMC_ELEMENT_SIZE 8
 #define SMC_ELEMENT_VOLUME 0   /* two bytes */
-#define SMC_ELEMENT_SOURCE 2   /* two bytes */
+#define SMC_ELEMENT_SOURCE 2   /* two bytes: the last storage element that the volume left since it came in; 0 none */
 #define SMC_ELEMENT_HOLDER 4
 #define SMC_ELEMENT_ID 5
 #define SMC_ELEMENT_MARK 6
@@ -142,7 +142,7 @@ enum { SMC_TRANSPORT = 1, SMC_STORAGE = 2, SMC_IMPORT_EXPORT = 3, SMC_DRIVE = 4 
 #define SMC_DESCRIPTOR_ADDRESS 0       /* two bytes */
 #define SMC_DESCRIPTOR_FLAGS 2
 #define SMC_DESCRIPTOR_SOURCE_STANDS 9 /* 80h if a source stands */
-#define SMC_DESCRIPTOR_SOURCE 10       /* two bytes */
+#define SMC_DESCRIPTOR_SOURCE 10       /* two bytes, as in the element's record */
 #define SMC_DESCRIPTOR_LABEL 12        /* 36 bytes, with tags */
 #define SMC_FLAG_FULL 0x01
 #define SMC_FLAG_MARKED 0x02   /* a person put the volume there */
@@ -213,11 +213,12 @@ smc_reply smc_release(SMC_TABLES, SMC_COMMAND);
 /* With GOOD the host's bit of the prevent mask is set or cleared. A set bit hinders import and export, and never a move. */
 smc_reply smc_prevent_allow(SMC_TABLES, SMC_COMMAND);
 
-/* With GOOD one volume has gone from source to destination, which now names that source. Any other end moves nothing. */
+/* With GOOD one volume has gone from source to destination. If it left a storage element, that one is named as its source from now on; if it
+ * left a drive or an import/export element, it keeps the source that it had, none included. Any other end moves nothing. */
 smc_reply smc_move_medium(SMC_TABLES, SMC_COMMAND);
 
-/* With GOOD the first destination's volume is in the second, and the source's in the first: a swap, where the second is the source. Any
- * other end moves nothing. */
+/* With GOOD the first destination's volume is in the second, and the source's in the first: a swap, where the second is the source. Each
+ * volume's source is as for a move. Any other end moves nothing. */
 smc_reply smc_exchange_medium(SMC_TABLES, SMC_COMMAND);
 
 /* Returns a listing, in whole descriptors as many as the allocation has room for. Its counts are of all that was chosen, however small
@@ -230,8 +231,8 @@ smc_reply smc_mode_sense(SMC_TABLES, SMC_COMMAND);
 
 /* ---- Events. Their status and count are 0, and they know no reservation. */
 
-/* A person put a volume into an import/export element. Numbers 1, 6, 7, 8, 9. It stands there with mark 1; each host that has no
- * attention pending has 28h/01h. */
+/* A person put a volume into an import/export element. Numbers 1, 6, 7, 8, 9. It stands there with mark 1 and without a source; each host
+ * that has no attention pending has 28h/01h. */
 smc_reply smc_import(SMC_TABLES, uint32_t address, uint32_t volume);
 
 /* A person took the volume out. Numbers 1, 6, 7, 8. The element is empty; attention as for import. */

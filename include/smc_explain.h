@@ -33,7 +33,7 @@ typedef enum {
     SMC_CLAUSE_VOLUME_NUMBER,      /* element; value: the volume number */
     SMC_CLAUSE_TRANSPORT_FULL,     /* element; value: the volume number */
     SMC_CLAUSE_SOURCE_WHERE_EMPTY, /* element; value: the source address */
-    SMC_CLAUSE_SOURCE_ADDRESS,     /* element; value: the source address */
+    SMC_CLAUSE_SOURCE_ADDRESS,     /* element; value: the source address, which is no storage element's */
     SMC_CLAUSE_MARK_PLACE,         /* element; value: the mark */
     SMC_CLAUSE_HOLDER_NUMBER,      /* element; value: the holder */
     SMC_CLAUSE_ID_WITHOUT_HOLDER,  /* element; value: the reservation id */

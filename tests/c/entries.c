@@ -321,6 +321,38 @@ static void mode_of_many_transports(void)
     }
 }
 
+/* Document 02, Two: a volume keeps its last shelf, and tables with a source that is no shelf are not sound. */
+static void last_shelf(void)
+{
+    static const uint8_t to_slot[12] = {0xA5, 0, 0, 0, 0x01, 0x00, 0x00, 0x10}, to_shelf[12] = {0xA5, 0, 0, 0, 0x00, 0x10, 0x10, 0x03};
+    static const uint8_t swap[12] = {0xA6, 0, 0, 0, 0x01, 0x00, 0x10, 0x02, 0x01, 0x00};
+    static const uint8_t of_slot[12] = {0xB8, 3, 0, 0, 0, 1, 0, 0, 0, 32};
+    static const uint8_t listed[32] = {0x00, 0x10, 0, 1, 0, 0, 0, 0x18, 3, 0, 0, 0x10, 0, 0, 0, 0x10, 0x00, 0x10, 0x39,
+                                       0,    0,    0, 0, 0, 0, 0x80, 0x10, 0x00};
+    static const unsigned no_shelf[] = {0x0001, 0x0010, 0x0100, 0x0002, 0x0FFF, 0x1004, 0xFFFF};
+    small_library();
+    ended("shelf to drive", send(smc_move_medium, 1, p1, 12), SMC_GOOD, 0);
+    ended("drive to mail slot", send(smc_move_medium, 1, to_slot, 12), SMC_GOOD, 0);
+    element_is("drive to mail slot", 1, 1, 0x1000, 0, 0, 0);
+    element_is("drive to mail slot", 2, 0, 0, 0, 0, 0);
+    ended("mail slot, listed", send(smc_read_element_status, 1, of_slot, 12), SMC_GOOD, 32);
+    expect(!memcmp(answer, listed, 32), "mail slot, listed", "other bytes");
+    ended("mail slot to shelf", send(smc_move_medium, 1, to_shelf, 12), SMC_GOOD, 0);
+    element_is("mail slot to shelf", 6, 1, 0x1000, 0, 0, 0);
+    small_library();
+    ended("shelf to drive", send(smc_move_medium, 1, p1, 12), SMC_GOOD, 0);
+    ended("swap from the drive", send(smc_exchange_medium, 1, swap, 12), SMC_GOOD, 0);
+    element_is("swap from the drive", 2, 2, 0x1002, 0, 0, 0);
+    element_is("swap from the drive", 5, 1, 0x1000, 0, 0, 0);
+    for (size_t i = 0; i < sizeof no_shelf / sizeof *no_shelf; i++) {
+        small_library();
+        put16(elements + 3 * SMC_ELEMENT_SIZE + SMC_ELEMENT_SOURCE, no_shelf[i]);
+        refused("a source that is no shelf", send(smc_test_unit_ready, 1, ready, 6), SMC_TABLES_NOT_SOUND);
+    }
+    put16(elements + 3 * SMC_ELEMENT_SIZE + SMC_ELEMENT_SOURCE, 0x1003);
+    ended("a source that is a shelf", send(smc_test_unit_ready, 1, ready, 6), SMC_GOOD, 0);
+}
+
 static void reservations(void)
 {
     static const uint8_t hold[6] = {0x16, 1, 5, 0, 6, 0}, list[6] = {0, 0, 0, 2, 0x10, 0x01}, release[6] = {0x17, 1, 5, 0, 0, 0};
@@ -382,6 +414,7 @@ int main(void)
     mode_pages();
     mode_refusals();
     mode_of_many_transports();
+    last_shelf();
     reservations();
     events();
     nothing_lent();

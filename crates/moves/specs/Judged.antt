@@ -7,8 +7,8 @@ use lib.ListN.{length}
 use lib.Dec.{eqb}
 use Rattle.rules.specs.Choice.{when, anyOf, differ}
 use Rattle.rules.specs.Bytes.{word}
-use Rattle.rules.specs.Tables.{headSize, places, holder, volume, filled, Fill}
-use Rattle.rules.specs.Roster.{Slot, roster, firstTransport}
+use Rattle.rules.specs.Tables.{headSize, places, holder, volume, source, filled, Fill}
+use Rattle.rules.specs.Roster.{Slot, roster, kindOf, firstTransport, storage}
 use Rattle.rules.specs.Order.{Verdict, refused, conflict, good, other}
 use Rattle.order.specs.declared.Cause.the-variants.{WrongAddress, SourceEmpty, DestinationFull}
 use Rattle.order.specs.Ending.{reason}
@@ -23,13 +23,24 @@ use Rattle.moves.specs.declared.Ruling.the-variants.{Move, Exchange, Ref
 unfoldable pub armAt : List Slot → ℕ → ℕ
 armAt ss a = when (eqb a 0) (firstTransport ss) a
 
--- ---- what an answer means: the volumes that it carries come from the addresses of the block
+-- "a volume leaving a storage element takes that address; leaving any other, it keeps the source it had, none included": of the volume at
+-- an address and its place
+unfoldable pub shelfAt : List Slot → List ℕ → ℕ → ℕ → ℕ
+shelfAt ss elements a p = when (eqb (kindOf ss a) storage) a (source elements p)
 
-unfoldable pub meaning : ℕ → List ℕ → Ruling → Verdict
-meaning h block (Move p q v) = good h (Fill p 0 0 0 ∷ Fill q v (word block 4) 0 ∷ [])
-meaning h block (Exchange p q r v w) = good h (Fill p 0 0 0 ∷ Fill q 0 0 0 ∷ Fill r w (word block 6) 0 ∷ Fill q v (word block 4) 0 ∷ [])
-meaning h block (Refused cause) = refused h (reason cause)
-meaning h block Conflict = conflict h
+-- ---- what an answer means on the elements as they were: the volumes that it carries come from the addresses of the block
+
+unfoldable pub meaning : List Slot → List ℕ → ℕ → List ℕ → Ruling → Verdict
+meaning ss elements h block (Move p q v) = good h (Fill p 0 0 0 ∷ Fill q v (shelfAt ss elements (word block 4) p) 0 ∷ [])
+meaning ss elements h block (Exchange p q r v w) =
+    good h
+    (Fill p 0 0 0
+    ∷ Fill q 0 0 0
+    ∷ Fill r w (shelfAt ss elements (word block 6) q) 0
+    ∷ Fill q v (shelfAt ss elements (word block 4) p) 0
+    ∷ [])
+meaning ss elements h block (Refused cause) = refused h (reason cause)
+meaning ss elements h block Conflict = conflict h
 
 -- the places of an answer are below n
 abbrev pub Within : ℕ → Ruling → Type 0
@@ -87,12 +98,16 @@ exchangeBy ss elements h block =
 
 -- ---- carried out
 
-unfoldable pub carried : List ℕ → List ℕ → ℕ → ℕ → ℕ → List ℕ
-carried elements block p q v = filled (filled elements p 0 0 0) q v (word block 4) 0
+-- a volume from one place to another, with a source
+unfoldable pub shifted : List ℕ → ℕ → ℕ → ℕ → ℕ → List ℕ
+shifted elements p q v s = filled (filled elements p 0 0 0) q v s 0
 
-unfoldable pub swapped : List ℕ → List ℕ → ℕ → ℕ → ℕ → ℕ → ℕ → List ℕ
-swapped elements block p q r v w =
-    filled (filled (filled (filled elements p 0 0 0) q 0 0 0) r w (word block 6) 0) q v (word block 4) 0
+unfoldable pub carried : List Slot → List ℕ → List ℕ → ℕ → ℕ → ℕ → List ℕ
+carried ss elements block p q v = shifted elements p q v (shelfAt ss elements (word block 4) p)
+
+unfoldable pub swapped : List Slot → List ℕ → List ℕ → ℕ → ℕ → ℕ → ℕ → ℕ → List ℕ
+swapped ss elements block p q r v w =
+    filled (shifted (filled elements p 0 0 0) q r w (shelfAt ss elements (word block 6) q)) q v (shelfAt ss elements (word block 4) p) 0
 
 -- what moves need of sound tables
 pub record Ready (runs : List Range) (head elements : List ℕ) : Type 0 where

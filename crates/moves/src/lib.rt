@@ -15,7 +15,7 @@ ghost use Rattle.order.specs.Ending.{ended};
 ghost use Rattle.tables.specs.Ranges.{laid};
 ghost use Rattle.tables.specs.LookUp.{found};
 ghost use Rattle.tables.specs.declared.Types.the-variants.{Transport};
-ghost use Rattle.moves.specs.Judged.{armAt, meaning, Within, moveAt, exchangeHeld, hinders, exchangeAt, moveBy, exchangeSpots, exchangeBy, carried, swapped, Ready};
+ghost use Rattle.moves.specs.Judged.{armAt, shelfAt, meaning, Within, moveAt, exchangeHeld, hinders, exchangeAt, moveBy, exchangeSpots, exchangeBy, shifted, carried, swapped, Ready};
 
 // What a command comes to: the places to carry from and to with the volumes that stand there, a refusal with its cause, or a conflict.
 pub enum Ruling {
@@ -216,20 +216,42 @@ fn judge_exchange(runs: [Range; 4], elements: &[u8], host: u8, block: &[u8]) -> 
     exchange_spots(runs, elements, host, block, arm)
 }
 
-// The volume goes from one place to another: "whose source address becomes the address it was taken from"; "The place left has volume 0,
-// source 0, mark 0".
-fn carry(elements: &mut [u8], block: &[u8], from: usize, to: usize, volume: u16)
+// "a volume leaving a storage element takes that address; leaving any other, it keeps the source it had, none included"
+fn shelf_of(runs: [Range; 4], elements: &[u8], address: u16, place: usize) -> u16
+    requires { ⌜ place < places (now elements) ⌝ }
+    ensures { λ r. ⌜ r ≡ shelfAt (laid runs) (now (elements .entry)) address place ⌝ }
+{
+    let kept = tables::element::source(elements, place);
+    if tables::kind_of(runs, address) == layout::STORAGE {
+        return address;
+    }
+    kept
+}
+
+// The volume goes from one place to another with a source: "The place left has volume 0, source 0, mark 0".
+fn shift(elements: &mut [u8], from: usize, to: usize, volume: u16, shelf: u16)
+    requires { ⌜ from < places (now elements) ⌝ }
+    requires { ⌜ to < places (now elements) ⌝ }
+    ensures { λ _. ⌜ now (elements .exit) ≡ shifted (now (elements .entry)) from to volume shelf ⌝ }
+{
+    tables::element::fill(elements, from, 0, 0, 0);
+    tables::element::fill(elements, to, volume, shelf, 0);
+}
+
+// The volume's source is read before a place is written.
+fn carry(runs: [Range; 4], elements: &mut [u8], block: &[u8], from: usize, to: usize, volume: u16)
     requires { ⌜ length (now block) ≡ 12 ⌝ }
     requires { ⌜ from < places (now elements) ⌝ }
     requires { ⌜ to < places (now elements) ⌝ }
-    ensures { λ _. ⌜ now (elements .exit) ≡ carried (now (elements .entry)) (now (block .entry)) from to volume ⌝ }
+    ensures { λ _. ⌜ now (elements .exit) ≡ carried (laid runs) (now (elements .entry)) (now (block .entry)) from to volume ⌝ }
 {
-    tables::element::fill(elements, from, 0, 0, 0);
-    tables::element::fill(elements, to, volume, wire::word_at(block, 4), 0);
+    let shelf = shelf_of(runs, elements, wire::word_at(block, 4), from);
+    shift(elements, from, to, volume, shelf);
 }
 
-// Both volumes were read before a place is written.
+// Both volumes and their sources are read before a place is written.
 fn swap(
+    runs: [Range; 4],
     elements: &mut [u8],
     block: &[u8],
     from: usize,
@@ -242,25 +264,33 @@ fn swap(
     requires { ⌜ from < places (now elements) ⌝ }
     requires { ⌜ first < places (now elements) ⌝ }
     requires { ⌜ second < places (now elements) ⌝ }
-    ensures { λ _. ⌜ now (elements .exit) ≡ swapped (now (elements .entry)) (now (block .entry)) from first second brought displaced ⌝ }
+    ensures { λ _. ⌜ now (elements .exit) ≡ swapped (laid runs) (now (elements .entry)) (now (block .entry)) from first second brought displaced ⌝ }
 {
+    let displaced_shelf = shelf_of(runs, elements, wire::word_at(block, 6), first);
+    let brought_shelf = shelf_of(runs, elements, wire::word_at(block, 4), from);
     tables::element::fill(elements, from, 0, 0, 0);
-    tables::element::fill(elements, first, 0, 0, 0);
-    tables::element::fill(elements, second, displaced, wire::word_at(block, 6), 0);
-    tables::element::fill(elements, first, brought, wire::word_at(block, 4), 0);
+    shift(elements, first, second, displaced, displaced_shelf);
+    tables::element::fill(elements, first, brought, brought_shelf, 0);
 }
 
 // Carries out what was judged.
-fn carry_out(head: &mut [u8], elements: &mut [u8], host: u8, block: &[u8], ruling: Ruling) -> Reply
+fn carry_out(
+    runs: [Range; 4],
+    head: &mut [u8],
+    elements: &mut [u8],
+    host: u8,
+    block: &[u8],
+    ruling: Ruling,
+) -> Reply
     requires { ⌜ headSize ≤ length (now head) ⌝ }
     requires { ⌜ host ≤ hosts ⌝ }
     requires { ⌜ length (now block) ≡ 12 ⌝ }
     requires { ⌜ Within (places (now elements)) ruling ⌝ }
-    ensures { λ r. ⌜ ((rest : Rest) (buffer : List ℕ) → ended r (lent (now (head .exit)) (now (elements .exit)) rest) buffer ≡ outcome (lent (now (head .entry)) (now (elements .entry)) rest) buffer (meaning host (now (block .entry)) ruling)) ⌝ }
+    ensures { λ r. ⌜ ((rest : Rest) (buffer : List ℕ) → ended r (lent (now (head .exit)) (now (elements .exit)) rest) buffer ≡ outcome (lent (now (head .entry)) (now (elements .entry)) rest) buffer (meaning (laid runs) (now (elements .entry)) host (now (block .entry)) ruling)) ⌝ }
 {
     match ruling {
         Ruling::Move { from, to, volume } => {
-            carry(elements, block, from, to, volume);
+            carry(runs, elements, block, from, to, volume);
             return order::good(head, host);
         }
         Ruling::Exchange {
@@ -270,7 +300,16 @@ fn carry_out(head: &mut [u8], elements: &mut [u8], host: u8, block: &[u8], rulin
             brought,
             displaced,
         } => {
-            swap(elements, block, from, first, second, brought, displaced);
+            swap(
+                runs,
+                elements,
+                block,
+                from,
+                first,
+                second,
+                brought,
+                displaced,
+            );
             return order::good(head, host);
         }
         Ruling::Refused(cause) => {
@@ -296,7 +335,7 @@ pub fn move_medium(
     ensures { λ r. ⌜ ((rest : Rest) (buffer : List ℕ) → ended r (lent (now (head .exit)) (now (elements .exit)) rest) buffer ≡ outcome (lent (now (head .entry)) (now (elements .entry)) rest) buffer (moveVerdict (lent (now (head .entry)) (now (elements .entry)) rest) host (now (block .entry)))) ⌝ }
 {
     let ruling = judge_move(runs, elements, host, block);
-    carry_out(head, elements, host, block, ruling)
+    carry_out(runs, head, elements, host, block, ruling)
 }
 
 // EXCHANGE MEDIUM from step 5 on.
@@ -313,5 +352,5 @@ pub fn exchange_medium(
     ensures { λ r. ⌜ ((rest : Rest) (buffer : List ℕ) → ended r (lent (now (head .exit)) (now (elements .exit)) rest) buffer ≡ outcome (lent (now (head .entry)) (now (elements .entry)) rest) buffer (exchangeVerdict (lent (now (head .entry)) (now (elements .entry)) rest) host (now (block .entry)))) ⌝ }
 {
     let ruling = judge_exchange(runs, elements, host, block);
-    carry_out(head, elements, host, block, ruling)
+    carry_out(runs, head, elements, host, block, ruling)
 }

@@ -9,12 +9,13 @@ use lib.ListN.{length}
 use lib.Dec.{leb}
 use borrow.Author.Tests.{leb-true}
 use Rattle.rules.specs.Choice.{when, differ}
-use Rattle.rules.specs.Tables.{Tables}
+use Rattle.rules.specs.Tables.{Tables, volume, source}
 use Rattle.rules.specs.Sound.{sound}
 use Rattle.rules.specs.Order.{Outcome, GOOD, CHECK-CONDITION, RESERVATION-CONFLICT}
 use Rattle.rules.specs.Command.{Request, Call, Command, Import, Export, serve}
 use Rattle.rules.specs.Numbers.{conditions, Foremost}
 use Rattle.rules.specs.Histories.{next, History, begun, called, imports, exports, Reply, toldTo, runRequests, replies, Mixing, none, left, right, named, From, end, more, Apart}
+use Rattle.rules.specs.Shelves.{lastShelf, sourceIn}
 use Rattle.rules.specs.Small.{element, empty, loaded, elementsOf, library, quietHead, small, moveBlock, readBlock, sends, asks, lentBuffer, refuses}
 use Rattle.rules.specs.Cases.{Case, numbers, eventNumbers, twice, laden, locked, addressPage, geometryPage, capabilityPage, wholeModes, modeBlock}
 use Rattle.rules.proofs.Ladder.{differ-true}
@@ -34,6 +35,7 @@ use Rattle.promises.proofs.Modes.{cut-once}
 use Rattle.promises.proofs.Demand3.{demand3, runs-are-histories}
 use Rattle.promises.proofs.Sequences.{sequences}
 use Rattle.promises.proofs.Volumes.{volumes-promised, never-twice}
+use Rattle.promises.proofs.Shelves.{last-shelf}
 
 -- ---- a test at every member of a list
 
@@ -284,7 +286,7 @@ from-two = more refl refl (more refl refl end)
 each-mixing : (m : Mixed) → AsIfAlone 1 2 ones twos (m .order) small
 each-mixing m = demand3 1 2 (λ e. omega arith) ones twos (m .order) from-one from-two apart (m .mixing) small
 
--- what each host is told alone, and where the reels are at the end
+-- what each host is told alone, and where the reels are at the end, each with the last shelf that it left
 answer : ℕ → Reply
 answer number = record { number = number; status = 0; count = 0; preventers = 0; lowest = 0; buffer = [] }
 
@@ -297,7 +299,7 @@ unfolding opened twos b₁ b₂ sent answer
 two-alone = refl
 
 moved : Tables
-moved = library quietHead (elementsOf empty empty empty (element 1 0x0100 0 0 0) (element 2 0x1003 0 0 0) empty)
+moved = library quietHead (elementsOf empty empty empty (element 1 0x1000 0 0 0) (element 2 0x1003 0 0 0) empty)
 
 all-moved : runRequests small (ones ++ twos) ≡ moved
 unfolding opened ones twos a₁ a₂ b₁ b₂ sent moved
@@ -361,7 +363,8 @@ day-answered = refl
 day-ends : AsTheRules small day (gives small day) (passes small day)
 day-ends = sequences _ _ _ _ (history small day) small-sound
 
-evening : passes small day .elements ≡ elementsOf empty empty empty (element 3 0x0010 0 0 0) (loaded 2) empty
+-- volume 3 left no shelf yet
+evening : passes small day .elements ≡ elementsOf empty empty empty (loaded 3) (loaded 2) empty
 unfolding opened day passes
 evening = refl
 
@@ -390,3 +393,56 @@ day-volumes w z = volumes-promised _ _ _ _ (history small day) small-sound w z
 
 once-each : (w : ℕ) → w ≢ 0 → standing w (passes small day) ≤ 1
 once-each w z = never-twice (passes small day) (day-ends .sound-still) w z
+
+-- ---- the last shelf: the way of a volume, and what its source tells at the end
+
+-- after the calls on the tables volume w stands at place p with source s, and s is the last shelf that the history tells
+record Shelved (t : Tables) (calls : List Call) (p w s : ℕ) : Type 0 where
+  stands : volume (passes t calls .elements) p ≡ w
+  told : source (passes t calls .elements) p ≡ s
+  last : lastShelf w (history t calls) (sourceIn w t) ≡ s
+
+-- "A reel went from shelf to drive to mail slot": the shelf, not the drive
+mailed : List Call
+mailed = asks (moveBlock 0x1000 0x0100) ∷ asks (moveBlock 0x0100 0x0010) ∷ []
+
+mailed-shelf : Shelved small mailed 1 1 0x1000
+unfolding opened mailed passes gives history
+mailed-shelf = record { stands = refl; told = refl; last = refl }
+
+-- the promise says so
+mailed-promised : source (passes small mailed .elements) 1 ≡ lastShelf 1 (history small mailed) (sourceIn 1 small)
+unfolding opened mailed passes gives history
+mailed-promised = last-shelf small _ _ _ (history small mailed) small-sound 1 (omega arith) (λ e. omega (arith, e))
+
+-- "a move from the drive back to a shelf shows the old shelf"
+reshelved : List Call
+reshelved = asks (moveBlock 0x1000 0x0100) ∷ asks (moveBlock 0x0100 0x1003) ∷ []
+
+reshelved-shelf : Shelved small reshelved 6 1 0x1000
+unfolding opened reshelved passes gives history
+reshelved-shelf = record { stands = refl; told = refl; last = refl }
+
+-- "none included": volume 3 comes in and goes to the drive; host 1 is told of the import in between
+brought : List Call
+brought = Import 0x0010 3 ∷ asks (0x00 ∷ 0 ∷ 0 ∷ 0 ∷ 0 ∷ 0 ∷ []) ∷ asks (moveBlock 0x0010 0x0100) ∷ []
+
+brought-shelf : Shelved small brought 2 3 0
+unfolding opened brought passes gives history
+brought-shelf = record { stands = refl; told = refl; last = refl }
+
+-- volume 1 leaves its shelf, goes out and comes in again: that shelf is told no more
+returned : List Call
+returned = asks (moveBlock 0x1000 0x0010) ∷ Export 0x0010 ∷ Import 0x0010 1 ∷ []
+
+returned-shelf : Shelved small returned 1 1 0
+unfolding opened returned passes gives history
+returned-shelf = record { stands = refl; told = refl; last = refl }
+
+-- in the drive from the start, with a source: that source goes with it to the mail slot
+mounted : Tables
+mounted = library quietHead (elementsOf empty (element 1 0x1003 0 0 0) empty empty (loaded 2) empty)
+
+mounted-shelf : Shelved mounted (asks (moveBlock 0x0100 0x0010) ∷ []) 1 1 0x1003
+unfolding opened mounted passes gives history
+mounted-shelf = record { stands = refl; told = refl; last = refl }

@@ -5,6 +5,7 @@ pub mod Refusals
 pub mod Demand3
 pub mod Sequences
 pub mod Volumes
+pub mod Shelves
 pub mod Listings
 pub mod Modes
 pub mod Instances

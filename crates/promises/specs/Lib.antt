@@ -5,5 +5,6 @@ pub mod Refusals
 pub mod Demand3
 pub mod Sequences
 pub mod Volumes
+pub mod Shelves
 pub mod Listings
 pub mod Modes

@@ -7,15 +7,15 @@ use mathlib.Core.Bool.{true, false}
 use mathlib.Core.List.{List, [], _∷_}
 use lib.ListN.{length}
 use lib.Dec.{eqb}
-use borrow.Author.Tests.{eqb-false, leb-false}
+use borrow.Author.Tests.{eqb-true, eqb-false, leb-false}
 use Rattle.rules.specs.Choice.{when, anyFrom}
 use Rattle.rules.specs.Bytes.{byte, word}
 use Rattle.rules.specs.Tables.{Tables, lent, hosts, unitAt, places, volumes, unit, attention, attentionq, volume, holder, sensed, Change, Sense, Attention, HoldUnit, Prevent, Hold, Free, Under, Every, inHead, inElements, change, changes}
 use Rattle.rules.specs.Roster.{Slot, roster, placeOf}
 use Rattle.rules.specs.Sound.{within}
 use Rattle.rules.specs.Operation.{Operation, TestUnitReady, RequestSense, Reserve, Release, PreventAllow, MoveMedium, ExchangeMedium, ReadElementStatus, ModeSense, Unknown, operation}
-use Rattle.rules.specs.Order.{Verdict, Number, Prevented, Done, InvalidOperation, fits, good, check, conflict, other, volumeOf}
-use Rattle.rules.specs.Moves.{noPlace, leave, carry, move, exchange}
+use Rattle.rules.specs.Order.{Verdict, Number, Prevented, Done, InvalidOperation, fits, good, check, conflict, other, volumeOf, sourceOf}
+use Rattle.rules.specs.Moves.{noPlace, leave, shelfOf, carry, move, exchange}
 use Rattle.rules.specs.Holds.{holdsFrom, granted, releaseUnit, release, prevent, descriptors}
 use Rattle.rules.specs.Sense.{requestSense}
 use Rattle.rules.specs.Listing.{readStatus}
@@ -25,7 +25,7 @@ use Rattle.rules.proofs.Ladder.{on, either, any-nowhere, all-cons, all-
 use Rattle.rules.proofs.Walks.{Refusals, Passed, Moving, Exchanging, telling, refused-by, steps-by, move-by, exchange-by, reserve-by, release-by}
 use Rattle.rules.proofs.Places.{roster-same}
 use Rattle.rules.proofs.HeadFields.{sensed-else}
-use Rattle.rules.proofs.Soundness.{SenseFits, HoldFits, ElementsFit, Sound, places-is, within-low, within-high}
+use Rattle.rules.proofs.Soundness.{SenseFits, ShelfOrNone, HoldFits, ElementsFit, Sound, places-is, within-low, within-high}
 use Rattle.rules.proofs.Keep.{change-sound, elements-sound, Sounds}
 use Rattle.rules.proofs.KeepMoves.{Stands, stands-of, moved-fits, exchanged-fits}
 
@@ -102,6 +102,12 @@ module _ (t : Tables) (s : Sound t) (h : ℕ) (l : 1 ≤ h) (m : h ≤ hosts) wh
   unfolding volumeOf
   full a e = eqb-false _ _ e
 
+  -- the source that is carried: the shelf left, or the source that stood there
+  carried : (a : ℕ) → noPlace t a ≡ false → ShelfOrNone (roster (t .head)) (shelfOf t a)
+  unfolding shelfOf sourceOf
+  carried a e =
+      on (ShelfOrNone (roster (t .head))) _ (λ k _. eqb-true _ _ k) (λ _. s .elements-fit .stocks _ (stands a e .inside) .source-shelf)
+
   move-sound : (block : List ℕ) → Sounds t (move t h block)
   unfolding move
   move-sound block = move-by (Sounds t) t h refusals-sound _ _ _ moved
@@ -115,7 +121,9 @@ module _ (t : Tables) (s : Sound t) (h : ℕ) (l : 1 ≤ h) (m : h ≤ hosts) wh
       moved : Moving t from to → Sounds t (good h (leave t from ∷ carry t from to ∷ []))
       moved x =
           unfold good leave carry volumeOf changes change inHead inElements in
-          stood _ (moved-fits _ _ _ (t .elements) from to (s .elements-fit) (stands from (x .from-stands)) (stands to (x .to-stands)) (full from (x .from-full)))
+          stood _
+          (moved-fits _ _ _ (t .elements) from to _ (s .elements-fit) (stands from (x .from-stands)) (stands to (x .to-stands))
+          (carried from (x .from-stands)) (full from (x .from-full)))
 
   exchange-sound : (block : List ℕ) → Sounds t (exchange t h block)
   unfolding exchange
@@ -134,8 +142,8 @@ module _ (t : Tables) (s : Sound t) (h : ℕ) (l : 1 ≤ h) (m : h ≤ hosts) wh
       exchanged x =
           unfold good leave carry volumeOf changes change inHead inElements in
           stood _
-          (exchanged-fits _ _ _ (t .elements) from first second (s .elements-fit) (stands from (x .from-stands)) (stands first (x .first-stands))
-          (stands second (x .second-stands)) (full from (x .from-full)) (full first (x .first-full)) (eqb-false _ _ (x .apart)))
+          (exchanged-fits _ _ _ (t .elements) from first second _ _ (s .elements-fit) (stands from (x .from-stands)) (stands first (x .first-stands))
+          (stands second (x .second-stands)) (carried first (x .first-stands)) (carried from (x .from-stands)) (full from (x .from-full)) (full first (x .first-full)) (eqb-false _ _ (x .apart)))
 
   -- ---- RESERVE and RELEASE
 

@@ -6,10 +6,10 @@ use mathlib.Core.Logic.{_≢_}
 use mathlib.Core.List.{List}
 use lib.ListN.{length}
 use Rattle.rules.specs.Tables.{elementSize, elementAt, places, volume, holder, filled, heldAt, held, Whose, freedAt, freed}
-use Rattle.rules.specs.Roster.{Slot, kindAt, kindOf, transport}
+use Rattle.rules.specs.Roster.{Slot, kindAt, transport}
 use Rattle.rules.proofs.Ladder.{on, either, each-keeps}
 use Rattle.rules.proofs.ElementFields.{filled-length, volume-else, source-else, mark-else, filled-holder, filled-id, filled-zero, filled-volume, filled-source, filled-mark, HoldsAlone, volume-alone, source-alone, mark-alone, zero-alone, heldAt-length, heldAt-else, heldAt-holder, heldAt-id, holder-else, id-else}
-use Rattle.rules.proofs.Soundness.{StockFits, HoldFits, ElementsFit}
+use Rattle.rules.proofs.Soundness.{ShelfOrNone, StockFits, HoldFits, ElementsFit}
 
 module _ (ss : List Slot) (u top : ℕ) (es : List ℕ) (f : ElementsFit ss u top es) where
   -- a place of the roster lies in the table
@@ -107,20 +107,20 @@ empty-fits top ss kind =
       small = omega arith;
       transport-empty = λ _. refl;
       source-full = λ n. absurd (n refl);
-      source-known = λ n. absurd (n refl);
+      source-shelf = λ n. absurd (n refl);
       mark-one = λ n. absurd (n refl);
       mark-port = λ n. absurd (n refl);
       mark-full = λ n. absurd (n refl);
     }
 
 -- a volume that the arm brought
-pub carried-fits : (top : ℕ) (ss : List Slot) (kind v s : ℕ) → v ≢ 0 → v ≤ top → kind ≢ transport → kindOf ss s ≢ 0 → StockFits top ss kind v s 0
+pub carried-fits : (top : ℕ) (ss : List Slot) (kind v s : ℕ) → v ≢ 0 → v ≤ top → kind ≢ transport → ShelfOrNone ss s → StockFits top ss kind v s 0
 carried-fits top ss kind v s z l k o =
     record {
       small = l;
       transport-empty = λ e. absurd (k e);
       source-full = λ _. z;
-      source-known = λ _. o;
+      source-shelf = o;
       mark-one = λ n. absurd (n refl);
       mark-port = λ n. absurd (n refl);
       mark-full = λ n. absurd (n refl);

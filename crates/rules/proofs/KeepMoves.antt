@@ -10,7 +10,7 @@ use Rattle.rules.specs.Roster.{Slot, kindAt, kindOf, placeOf, transport}
 use Rattle.rules.proofs.Ladder.{either}
 use Rattle.rules.proofs.Places.{place-in, kind-in, place-apart}
 use Rattle.rules.proofs.ElementFields.{volume-else, filled-volume}
-use Rattle.rules.proofs.Soundness.{ElementsFit, volumes-apart}
+use Rattle.rules.proofs.Soundness.{ShelfOrNone, ElementsFit, volumes-apart}
 use Rattle.rules.proofs.KeepElements.{place-long, fill-fits, empty-fits, carried-fits}
 
 -- an address that stands and is no transport's: its place, and what may be put there
@@ -40,16 +40,16 @@ module _ (ss : List Slot) (u top : ℕ) where
       (λ n. (n, sym (volume-else es p 0 0 0 q n) ∙ e))
 
   -- a volume that stands nowhere may be put where no transport is
-  put-fits : (es : List ℕ) (v a o : ℕ) → Fits es → Stands ss a → Stands ss o → v ≢ 0 → v ≤ top
-      → ((q : ℕ) → q < length ss → volume es q ≢ v) → Fits (filled es (placeOf ss a) v o 0)
-  put-fits es v a o f x y z l fresh =
-      fill-fits ss u top es f (placeOf ss a) v o 0 (x .inside) (carried-fits top ss _ v o z l (x .no-transport) (y .is-known)) (λ _ q i _. fresh q i)
+  put-fits : (es : List ℕ) (v a s : ℕ) → Fits es → Stands ss a → ShelfOrNone ss s → v ≢ 0 → v ≤ top
+      → ((q : ℕ) → q < length ss → volume es q ≢ v) → Fits (filled es (placeOf ss a) v s 0)
+  put-fits es v a s f x o z l fresh =
+      fill-fits ss u top es f (placeOf ss a) v s 0 (x .inside) (carried-fits top ss _ v s z l (x .no-transport) o) (λ _ q i _. fresh q i)
 
   -- MOVE: leave the source, fill the destination
-  pub moved-fits : (es : List ℕ) (from to : ℕ) → Fits es → Stands ss from → Stands ss to → volume es (placeOf ss from) ≢ 0
-      → Fits (filled (filled es (placeOf ss from) 0 0 0) (placeOf ss to) (volume es (placeOf ss from)) from 0)
-  moved-fits es from to f x y z =
-      put-fits _ (volume es (placeOf ss from)) to from (leave-fits es (placeOf ss from) f (x .inside)) y x z (f .stocks _ (x .inside) .small) fresh
+  pub moved-fits : (es : List ℕ) (from to s : ℕ) → Fits es → Stands ss from → Stands ss to → ShelfOrNone ss s → volume es (placeOf ss from) ≢ 0
+      → Fits (filled (filled es (placeOf ss from) 0 0 0) (placeOf ss to) (volume es (placeOf ss from)) s 0)
+  moved-fits es from to s f x y o z =
+      put-fits _ (volume es (placeOf ss from)) to s (leave-fits es (placeOf ss from) f (x .inside)) y o z (f .stocks _ (x .inside) .small) fresh
     where
       fresh : (q : ℕ) → q < length ss → volume (filled es (placeOf ss from) 0 0 0) q ≢ volume es (placeOf ss from)
       fresh q i e =
@@ -57,14 +57,14 @@ module _ (ss : List Slot) (u top : ℕ) where
           volumes-apart ss u top es f (placeOf ss from) q (x .inside) i (λ d. w .0 (sym d)) z (sym (w .1))
 
   -- EXCHANGE: leave source and first destination, fill the second, fill the first
-  pub exchanged-fits : (es : List ℕ) (from first second : ℕ) → Fits es → Stands ss from → Stands ss first → Stands ss second
-      → volume es (placeOf ss from) ≢ 0 → volume es (placeOf ss first) ≢ 0 → first ≢ from
+  pub exchanged-fits : (es : List ℕ) (from first second s r : ℕ) → Fits es → Stands ss from → Stands ss first → Stands ss second
+      → ShelfOrNone ss s → ShelfOrNone ss r → volume es (placeOf ss from) ≢ 0 → volume es (placeOf ss first) ≢ 0 → first ≢ from
       → Fits
       (filled
-      (filled (filled (filled es (placeOf ss from) 0 0 0) (placeOf ss first) 0 0 0) (placeOf ss second) (volume es (placeOf ss first)) first 0)
-      (placeOf ss first) (volume es (placeOf ss from)) from 0)
-  exchanged-fits es from first second f x y k z w d =
-      put-fits es₃ v first from fits₃ y x z (f .stocks _ (x .inside) .small) fresh₃
+      (filled (filled (filled es (placeOf ss from) 0 0 0) (placeOf ss first) 0 0 0) (placeOf ss second) (volume es (placeOf ss first)) s 0)
+      (placeOf ss first) (volume es (placeOf ss from)) r 0)
+  exchanged-fits es from first second s r f x y k o o′ z w d =
+      put-fits es₃ v first r fits₃ y o′ z (f .stocks _ (x .inside) .small) fresh₃
     where
       pf : ℕ
       pf = placeOf ss from
@@ -101,19 +101,19 @@ module _ (ss : List Slot) (u top : ℕ) where
           (b .0, a .0, b .1)
 
       es₃ : List ℕ
-      es₃ = filled es₂ p₂ v₁ first 0
+      es₃ = filled es₂ p₂ v₁ s 0
 
       fits₃ : Fits es₃
       fits₃ =
-          put-fits es₂ v₁ second first fits₂ k y w (f .stocks _ (y .inside) .small)
+          put-fits es₂ v₁ second s fits₂ k o w (f .stocks _ (y .inside) .small)
           (λ q i e. let a = elsewhere v₁ q w e in volumes-apart ss u top es f p₁ q (y .inside) i (λ n. a .1 (sym n)) w (sym (a .2)))
 
       fresh₃ : (q : ℕ) → q < length ss → volume es₃ q ≢ v
       fresh₃ q i e =
           either q p₂
           (λ n.
-          let a : volume es₃ q ≡ v₁ = rw n (filled-volume es₂ p₂ v₁ first 0 (place-long ss u top es₂ fits₂ p₂ (k .inside))) in
+          let a : volume es₃ q ≡ v₁ = rw n (filled-volume es₂ p₂ v₁ s 0 (place-long ss u top es₂ fits₂ p₂ (k .inside))) in
           volumes-apart ss u top es f p₁ pf (y .inside) (x .inside) (place-apart ss first from d (x .is-known)) w (sym a ∙ e))
           (λ n.
-          let a = elsewhere v q z (sym (volume-else es₂ p₂ v₁ first 0 q n) ∙ e) in
+          let a = elsewhere v q z (sym (volume-else es₂ p₂ v₁ s 0 q n) ∙ e) in
           volumes-apart ss u top es f pf q (x .inside) i (λ m. a .0 (sym m)) z (sym (a .2)))

@@ -25,7 +25,9 @@ pub mod Frame
 pub mod Mix
 pub mod Sequences
 pub mod Counts
+pub mod Stills
 pub mod Volumes
+pub mod Shelves
 pub mod Rungs
 pub mod Loops
 pub mod Ascending

@@ -6,10 +6,10 @@ use mathlib.Core.Bool.{Bool, true, false}
 use mathlib.Core.List.{List, [], _∷_, List·Memᴰ}
 use Rattle.rules.specs.Choice.{when}
 use Rattle.rules.specs.Bytes.{byte, word}
-use Rattle.rules.specs.Tables.{Tables, hostAt, attentionAt, elementAt, elementSize, unit, key, asc, ascq, attention, attentionq, volume}
+use Rattle.rules.specs.Tables.{Tables, hostAt, attentionAt, elementAt, elementSize, unit, key, asc, ascq, attention, attentionq, volume, source}
 use Rattle.rules.specs.Roster.{roster, placeOf}
-use Rattle.rules.specs.Order.{Verdict, other, heldByOther, volumeOf, afterAttention, afterUnit, guarded}
-use Rattle.rules.specs.Moves.{transportUsed, noTransport, noPlace, leave, carry, moveOf, move, exchangeOf, exchange}
+use Rattle.rules.specs.Order.{Verdict, other, heldByOther, volumeOf, sourceOf, afterAttention, afterUnit, guarded}
+use Rattle.rules.specs.Moves.{transportUsed, noTransport, noPlace, leave, shelfOf, carry, moveOf, move, exchangeOf, exchange}
 use Rattle.rules.specs.Sense.{tellsAttention, requestSense}
 use Rattle.rules.specs.Operation.{Operation, TestUnitReady, RequestSense, Reserve, Release, PreventAllow, MoveMedium, ExchangeMedium, ReadElementStatus, ModeSense, Unknown, operation}
 use Rattle.rules.specs.Form.{ownFault, fault, formed}
@@ -21,6 +21,10 @@ use Rattle.rules.proofs.Local.{OfHost}
 -- the j-th byte of the record of the element at an address
 abbrev pub recordByte : Tables → ℕ → ℕ → ℕ
 recordByte t a j = byte (t .elements) (elementAt (placeOf (roster (t .head)) a) + j)
+
+-- the number in its j-th and next byte
+abbrev recordWord : Tables → ℕ → ℕ → ℕ
+recordWord t a j = word (t .elements) (elementAt (placeOf (roster (t .head)) a) + j)
 
 -- the addresses that a block's command touches: those named and, where one is, the transport used
 unfoldable pub touching : Tables → List ℕ → List ℕ → List ℕ
@@ -69,18 +73,32 @@ module _ (h : ℕ) (T N : List ℕ) (t u : Tables) (s : Same h T N t u) where
   unfolding leave
   leave-is a = cc (s .roster-is)
 
+  -- two bytes of the record of an element named
+  field-is : (a : ℕ) → List·Memᴰ a N → (j : ℕ) → j + 1 < elementSize → recordWord t a j ≡ recordWord u a j
+  unfolding word
+  field-is a m j l =
+      let p = elementAt (placeOf (roster (t .head)) a) in
+      let q = elementAt (placeOf (roster (u .head)) a) in
+      let x : p + j + 1 ≡ p + (j + 1) = omega arith in
+      let y : q + j + 1 ≡ q + (j + 1) = omega arith in
+      cc (s .record-is a m j (omega arith), s .record-is a m (j + 1) l, x, y)
+
   volume-is : (a : ℕ) → List·Memᴰ a N → volumeOf t a ≡ volumeOf u a
-  unfolding volumeOf volume word
+  unfolding volumeOf volume
   volume-is a m =
       let p = elementAt (placeOf (roster (t .head)) a) in
       let q = elementAt (placeOf (roster (u .head)) a) in
       let x : p + 0 ≡ p = omega arith in
       let y : q + 0 ≡ q = omega arith in
-      cc (s .record-is a m 0 (omega arith), s .record-is a m 1 (omega arith), x, y)
+      cc (field-is a m 0 (omega arith), x, y)
+
+  source-is : (a : ℕ) → List·Memᴰ a N → sourceOf t a ≡ sourceOf u a
+  unfolding sourceOf source
+  source-is a m = field-is a m 2 (omega arith)
 
   carry-is : (a b : ℕ) → List·Memᴰ a N → carry t a b ≡ carry u a b
-  unfolding carry
-  carry-is a b m = cc (s .roster-is, volume-is a m)
+  unfolding carry shelfOf
+  carry-is a b m = cc (s .roster-is, volume-is a m, source-is a m)
 
   attention-is : attention (t .head) h ≡ attention (u .head) h
   unfolding attention

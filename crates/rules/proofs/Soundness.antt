@@ -10,7 +10,7 @@ use lib.Dec.{eqb, leb, ltb}
 use borrow.Author.Tests.{eqb-true, eqb-false, leb-true, ltb-true, ltb-false, eq-eqb, le-leb}
 use Rattle.rules.specs.Choice.{when, allOf, differ, below}
 use Rattle.rules.specs.Tables.{Tables, Rest, headSize, elementSize, tagSize, hosts, places, volumes, unit, key, asc, ascq, attention, attentionq, volume, source, holder, id, mark, zeroByte}
-use Rattle.rules.specs.Roster.{Slot, Range, range, ranges, roster, kindAt, kindOf, transport, port}
+use Rattle.rules.specs.Roster.{Slot, Range, range, ranges, roster, kindAt, kindOf, transport, storage, port}
 use Rattle.rules.specs.Sound.{within, countsSound, behind, rangeSound, noOverlap, clear, rangesSound, transportEmpty, sourceSound, markSound, stockSound, holdSound, once, senseSound, attentionSound, headSound, labelsSound, restSound, elementsSound, sound}
 use Rattle.rules.proofs.Ladder.{either, if-true, if-of, unless-true, unless-of, any-cases, any-by-first, any-by-rest, any-nil, all-first, all-rest, all-cons, all-nil, differ-true, ne-differ, below-at, below-of}
 
@@ -78,12 +78,16 @@ attention-of a q f =
 
 -- ---- an element's eight bytes
 
+-- a source: "only a storage address or 0"
+abbrev pub ShelfOrNone : List Slot → ℕ → Type 0
+ShelfOrNone ss s = s ≢ 0 → kindOf ss s ≡ storage
+
 -- what stands in an element of a type, where top is the last volume number
 pub record StockFits (top : ℕ) (ss : List Slot) (kind v s m : ℕ) : Type 0 where
   pub small : v ≤ top
   pub transport-empty : kind ≡ transport → v ≡ 0
   pub source-full : s ≢ 0 → v ≢ 0
-  pub source-known : s ≢ 0 → kindOf ss s ≢ 0
+  pub source-shelf : ShelfOrNone ss s
   pub mark-one : m ≢ 0 → m ≡ 1
   pub mark-port : m ≢ 0 → kind ≡ port
   pub mark-full : m ≢ 0 → v ≢ 0
@@ -92,13 +96,13 @@ pub stock-true : (top : ℕ) (ss : List Slot) (kind v s m : ℕ) → stockSound 
 unfolding stockSound transportEmpty sourceSound markSound
 stock-true top ss kind v s m e =
     let rest = all-rest _ _ (all-rest _ _ e) in
-    let sourced : s ≢ 0 → allOf (differ v 0 ∷ differ (kindOf ss s) 0 ∷ []) ≡ true = unless-true s 0 _ (all-first _ _ rest) in
+    let sourced : s ≢ 0 → allOf (differ v 0 ∷ eqb (kindOf ss s) storage ∷ []) ≡ true = unless-true s 0 _ (all-first _ _ rest) in
     let marked : m ≢ 0 → allOf (eqb m 1 ∷ eqb kind port ∷ differ v 0 ∷ []) ≡ true = unless-true m 0 _ (all-first _ _ (all-rest _ _ rest)) in
     record {
       small = leb-true v top (all-first _ _ e);
       transport-empty = λ k. eqb-true v 0 (if-true kind transport _ (all-first _ _ (all-rest _ _ e)) k);
       source-full = λ n. differ-true v 0 (all-first _ _ (sourced n));
-      source-known = λ n. differ-true (kindOf ss s) 0 (all-first _ _ (all-rest _ _ (sourced n)));
+      source-shelf = λ n. eqb-true (kindOf ss s) storage (all-first _ _ (all-rest _ _ (sourced n)));
       mark-one = λ n. eqb-true m 1 (all-first _ _ (marked n));
       mark-port = λ n. eqb-true kind port (all-first _ _ (all-rest _ _ (marked n)));
       mark-full = λ n. differ-true v 0 (all-first _ _ (all-rest _ _ (all-rest _ _ (marked n))));
@@ -109,7 +113,7 @@ unfolding stockSound transportEmpty sourceSound markSound
 stock-of top ss kind v s m f =
     all-cons _ _ (le-leb v top (f .small))
     (all-cons _ _ (if-of kind transport _ (λ k. eq-eqb v 0 (f .transport-empty k)))
-    (all-cons _ _ (unless-of s 0 _ (λ n. all-cons _ _ (ne-differ v 0 (f .source-full n)) (all-cons _ _ (ne-differ _ 0 (f .source-known n)) all-nil)))
+    (all-cons _ _ (unless-of s 0 _ (λ n. all-cons _ _ (ne-differ v 0 (f .source-full n)) (all-cons _ _ (eq-eqb _ storage (f .source-shelf n)) all-nil)))
     (all-cons _ _
     (unless-of m 0 _
     (λ n.

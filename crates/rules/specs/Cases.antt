@@ -70,6 +70,16 @@ pub data Name : Type 0 where
   MODE-SENSE-unit-of-another-host : Name
   MODE-SENSE-too-long : Name
   MODE-SENSE-longest : Name
+  shelf-to-drive-to-mail-slot : Name
+  shelf-to-drive-to-mail-slot-listed : Name
+  none-is-kept : Name
+  drive-to-shelf-shows-the-old-shelf : Name
+  EXCHANGE-leaving-the-drive : Name
+  EXCHANGE-shelf-to-drive-and-back : Name
+  EXCHANGE-of-drive-and-mail-slot : Name
+  source-names-the-drive : Name
+  source-names-the-mail-slot : Name
+  source-names-the-transport : Name
 
 pub record Case : Type 0 where
   pub name : Name
@@ -368,11 +378,11 @@ eventCases =
     }
     ∷ record {
       name = reset-frees-all;
-      on = library (headOf 2 0x84 (senses 5 0x24 0x00) (awaits 0x28 0x01) quiet) (elementsOf (element 3 0 2 7 1) empty (element 1 0x0100 2 0 0) empty (loaded 2) empty);
+      on = library (headOf 2 0x84 (senses 5 0x24 0x00) (awaits 0x28 0x01) quiet) (elementsOf (element 3 0 2 7 1) empty (element 1 0x1003 2 0 0) empty (loaded 2) empty);
       call = Reset;
       gives =
           ends 0x00 0 (headOf 0 0 (awaits 0x29 0x00) (awaits 0x29 0x00) (awaits 0x29 0x00))
-          (elementsOf (element 3 0 0 0 1) empty (element 1 0x0100 0 0 0) empty (loaded 2) empty) [];
+          (elementsOf (element 3 0 0 0 1) empty (element 1 0x1003 0 0 0) empty (loaded 2) empty) [];
     }
     ∷ []
 
@@ -447,9 +457,79 @@ longCases =
     }
     ∷ []
 
+-- ---- "the last storage element that held it"
+
+-- carried out for host 1: the elements before and after
+unfoldable pub carries : Name → List ℕ → List ℕ → List ℕ → Case
+carries name before block behind =
+    record { name = name; on = library quietHead before; call = asks block; gives = ends 0x00 0 quietHead behind [] }
+
+unfoldable pub shelfMoves : List Case
+shelfMoves =
+    -- "A reel went from shelf to drive to mail slot, and our listing named the drive as its source."
+    carries shelf-to-drive-to-mail-slot
+    (elementsOf empty (element 1 0x1000 0 0 0) empty empty (loaded 2) empty)
+    (moveBlock 0x0100 0x0010)
+    (elementsOf (element 1 0x1000 0 0 0) empty empty empty (loaded 2) empty)
+    ∷ (let elements = elementsOf (element 1 0x1000 0 0 0) empty empty empty (loaded 2) empty in
+    record {
+      name = shelf-to-drive-to-mail-slot-listed;
+      on = library quietHead elements;
+      call = sends 1 (readBlock 3 1 32) [] (lentBuffer 33);
+      gives =
+          ends 0x00 32 quietHead elements
+          ((0x00 ∷ 0x10 ∷ 0x00 ∷ 0x01 ∷ 0x00 ∷ 0x00 ∷ 0x00 ∷ 0x18 ∷ 0x03 ∷ 0x00 ∷ 0x00 ∷ 0x10 ∷ 0x00 ∷ 0x00 ∷ 0x00 ∷ 0x10 ∷ [])
+          ++ (0x00 ∷ 0x10 ∷ 0x39 ∷ 0x00 ∷ 0x00 ∷ 0x00 ∷ 0x00 ∷ 0x00 ∷ 0x00 ∷ 0x80 ∷ 0x10 ∷ 0x00 ∷ 0x00 ∷ 0x00 ∷ 0x00 ∷ 0x00 ∷ 0xEE ∷ []));
+    })
+    -- "leaving any other, it keeps the source it had, none included"
+    ∷ carries none-is-kept
+    (elementsOf (element 3 0 0 0 1) empty (loaded 1) empty (loaded 2) empty)
+    (moveBlock 0x0010 0x0100)
+    (elementsOf empty (element 3 0 0 0 0) (loaded 1) empty (loaded 2) empty)
+    -- "a move from the drive back to a shelf shows the old shelf"
+    ∷ carries drive-to-shelf-shows-the-old-shelf
+    (elementsOf empty (element 1 0x1000 0 0 0) empty empty (loaded 2) empty)
+    (moveBlock 0x0100 0x1003)
+    (elementsOf empty empty empty empty (loaded 2) (element 1 0x1000 0 0 0))
+    ∷ []
+
+-- "a volume leaving a storage element takes that address; leaving any other, it keeps the source it had": each of the two by itself
+unfoldable pub shelfExchanges : List Case
+shelfExchanges =
+    -- the volume of shelf 1002h came from 1000h: it takes 1002h
+    carries EXCHANGE-leaving-the-drive
+    (elementsOf empty (element 1 0x1003 0 0 0) empty empty (element 2 0x1000 0 0 0) empty)
+    (exchangeBlock 0x0100 0x1002 0x1001)
+    (elementsOf empty empty empty (element 2 0x1002 0 0 0) (element 1 0x1003 0 0 0) empty)
+    ∷ carries EXCHANGE-shelf-to-drive-and-back
+    (elementsOf empty (element 2 0x1002 0 0 0) (element 1 0x1003 0 0 0) empty empty empty)
+    (exchangeBlock 0x1000 0x0100 0x1000)
+    (elementsOf empty (element 1 0x1000 0 0 0) (element 2 0x1002 0 0 0) empty empty empty)
+    -- each source is read before the other is written
+    ∷ carries EXCHANGE-of-drive-and-mail-slot
+    (elementsOf (element 2 0x1002 0 0 0) (element 1 0x1000 0 0 0) empty empty empty empty)
+    (exchangeBlock 0x0100 0x0010 0x0100)
+    (elementsOf (element 1 0x1000 0 0 0) (element 2 0x1002 0 0 0) empty empty empty empty)
+    ∷ []
+
+-- "Sound tables now allow only a storage address or 0."
+unfoldable pub unsoundSource : Name → ℕ → Case
+unsoundSource name source =
+    let t = library quietHead (elementsOf empty empty (element 1 source 0 0 0) empty (loaded 2) empty) in
+    record { name = name; on = t; call = asks (0x00 ∷ 0 ∷ 0 ∷ 0 ∷ 0 ∷ 0 ∷ []); gives = refuses 1 t [] }
+
+unfoldable pub sourceCases : List Case
+sourceCases =
+    unsoundSource source-names-the-drive 0x0100
+    ∷ unsoundSource source-names-the-mail-slot 0x0010
+    ∷ unsoundSource source-names-the-transport 0x0001
+    ∷ []
+
 -- "P1 to P12 are one table", with the rows above
 unfoldable pub cases : List Case
-cases = moves ++ exchanges ++ cuts ++ readAll ++ shipped ++ numbers ++ eventNumbers ++ stepCases ++ touchCases ++ holdCases ++ eventCases ++ modeCases ++ longCases
+cases =
+    moves ++ exchanges ++ cuts ++ readAll ++ shipped ++ numbers ++ eventNumbers ++ stepCases ++ touchCases ++ holdCases ++ eventCases ++ modeCases ++ longCases
+    ++ shelfMoves ++ shelfExchanges ++ sourceCases
 
 -- ---- the test over all rows: the names of those whose outcome is another
 

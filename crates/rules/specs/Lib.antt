@@ -16,5 +16,6 @@ pub mod Events
 pub mod Command
 pub mod Numbers
 pub mod Histories
+pub mod Shelves
 pub mod Small
 pub mod Cases

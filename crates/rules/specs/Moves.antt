@@ -6,8 +6,8 @@ use lib.Dec.{eqb, leb}
 use Rattle.rules.specs.Choice.{when, anyOf, allOf, differ}
 use Rattle.rules.specs.Bytes.{word}
 use Rattle.rules.specs.Tables.{Tables, Change, Fill}
-use Rattle.rules.specs.Roster.{roster, placeOf, kindOf, firstTransport, transport}
-use Rattle.rules.specs.Order.{Verdict, WrongAddress, SourceEmpty, DestinationFull, good, refused, conflict, heldByOther, volumeOf}
+use Rattle.rules.specs.Roster.{roster, placeOf, kindOf, firstTransport, transport, storage}
+use Rattle.rules.specs.Order.{Verdict, WrongAddress, SourceEmpty, DestinationFull, good, refused, conflict, heldByOther, volumeOf, sourceOf}
 
 -- "Transport 0 means the lowest-addressed one"
 unfoldable pub transportUsed : Tables → ℕ → ℕ
@@ -25,9 +25,13 @@ noPlace t a = leb (kindOf (roster (t .head)) a) transport
 unfoldable pub leave : Tables → ℕ → Change
 leave t a = Fill (placeOf (roster (t .head)) a) 0 0 0
 
--- "whose source address becomes the address it was taken from"; "a place filled by the arm has mark 0"
+-- "a volume leaving a storage element takes that address; leaving any other, it keeps the source it had, none included"
+unfoldable pub shelfOf : Tables → ℕ → ℕ
+shelfOf t a = when (eqb (kindOf (roster (t .head)) a) storage) a (sourceOf t a)
+
+-- the volume goes with the last shelf that it left; "a place filled by the arm has mark 0"
 unfoldable pub carry : Tables → ℕ → ℕ → Change
-carry t from to = Fill (placeOf (roster (t .head)) to) (volumeOf t from) from 0
+carry t from to = Fill (placeOf (roster (t .head)) to) (volumeOf t from) (shelfOf t from) 0
 
 -- steps 5 to 8 for MOVE: the transport used, the source, the destination
 unfoldable pub moveOf : Tables → ℕ → ℕ → ℕ → ℕ → Verdict
@@ -42,8 +46,8 @@ moveOf t h arm from to =
 unfoldable pub move : Tables → ℕ → List ℕ → Verdict
 move t h block = moveOf t h (transportUsed t (word block 2)) (word block 4) (word block 6)
 
--- steps 5 to 8 for EXCHANGE: the transport used, the source, the first and the second destination. Both volumes are read before a place
--- is written; "the source, unless it is the second, is then a place left".
+-- steps 5 to 8 for EXCHANGE: the transport used, the source, the first and the second destination. Both volumes and their sources are
+-- read before a place is written; "the source, unless it is the second, is then a place left".
 unfoldable pub exchangeOf : Tables → ℕ → ℕ → ℕ → ℕ → ℕ → Verdict
 exchangeOf t h arm from first second =
     when (anyOf (noTransport t arm ∷ noPlace t from ∷ noPlace t first ∷ noPlace t second ∷ eqb first from ∷ [])) (refused h WrongAddress)

@@ -6,7 +6,7 @@ use lib.ListN.{length}
 use lib.Dec.{eqb, leb}
 use Rattle.rules.specs.Choice.{when, allOf, differ}
 use Rattle.rules.specs.Bytes.{put}
-use Rattle.rules.specs.Tables.{Tables, unit, attention, attentionq, holder, volume, Change, Sense, Attention, changes}
+use Rattle.rules.specs.Tables.{Tables, unit, attention, attentionq, holder, volume, source, Change, Sense, Attention, changes}
 use Rattle.rules.specs.Roster.{roster, placeOf}
 
 -- A call is judged, then carried out. `Number n`: refused by house number n. `Prevented n h`: refused by house number 7, n hosts prevent
@@ -102,12 +102,15 @@ conflict h = Done RESERVATION-CONFLICT [] (Sense h 0 0 0 ∷ [])
 unfoldable pub other : ℕ → ℕ → Bool
 other h owner = allOf (differ owner 0 ∷ differ owner h ∷ [])
 
--- of the element at an address: held by another host than h; its volume
+-- of the element at an address: held by another host than h; its volume; its source
 unfoldable pub heldByOther : Tables → ℕ → ℕ → Bool
 heldByOther t h a = other h (holder (t .elements) (placeOf (roster (t .head)) a))
 
 unfoldable pub volumeOf : Tables → ℕ → ℕ
 volumeOf t a = volume (t .elements) (placeOf (roster (t .head)) a)
+
+unfoldable pub sourceOf : Tables → ℕ → ℕ
+sourceOf t a = source (t .elements) (placeOf (roster (t .head)) a)
 
 -- ---- steps 2 and 3
 

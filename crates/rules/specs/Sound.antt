@@ -6,7 +6,7 @@ use lib.ListN.{length}
 use lib.Dec.{eqb, leb}
 use Rattle.rules.specs.Choice.{when, anyOf, allOf, differ, below}
 use Rattle.rules.specs.Tables.{Tables, mostElements, mostTransports, mostVolumes, behindLast, Rest, headSize, elementSize, tagSize, hosts, volumes, unit, key, asc, ascq, attention, attentionq, volume, source, holder, id, mark, zeroByte}
-use Rattle.rules.specs.Roster.{Slot, Range, range, ranges, roster, kindAt, kindOf, transport, port}
+use Rattle.rules.specs.Roster.{Slot, Range, range, ranges, roster, kindAt, kindOf, transport, storage, port}
 
 -- low to high, both ends included
 unfoldable pub within : ℕ → ℕ → ℕ → Bool
@@ -45,9 +45,9 @@ rangesSound (r ∷ rs) = allOf (rangeSound r ∷ clear r rs ∷ rangesSound rs �
 unfoldable pub transportEmpty : ℕ → ℕ → Bool
 transportEmpty kind v = when (eqb kind transport) (eqb v 0) true
 
--- "A source is 0 or an element's address, and 0 where empty."
+-- "Sound tables now allow only a storage address or 0", "and 0 where empty"
 unfoldable pub sourceSound : List Slot → ℕ → ℕ → Bool
-sourceSound ss v s = when (eqb s 0) true (allOf (differ v 0 ∷ differ (kindOf ss s) 0 ∷ []))
+sourceSound ss v s = when (eqb s 0) true (allOf (differ v 0 ∷ eqb (kindOf ss s) storage ∷ []))
 
 -- "The mark is 1 only on a full import/export element, else 0."
 unfoldable pub markSound : ℕ → ℕ → ℕ → Bool

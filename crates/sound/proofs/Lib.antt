@@ -1,4 +1,3 @@
-pub mod Stand
 pub mod Pass
 pub mod Once
 pub mod Holding

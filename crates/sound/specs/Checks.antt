@@ -4,15 +4,11 @@ use mathlib.Core.Path.{_≡_}
 use mathlib.Core.List.{List, [], _∷_}
 use mathlib.Core.Bool.{Bool, true}
 use lib.ListN.{length, getD}
-use lib.Dec.{eqb, leb, ltb}
+use lib.Dec.{eqb, leb}
 use Rattle.rules.specs.Choice.{when, allOf, differ, below}
 use Rattle.rules.specs.Tables.{elementSize, volume, source, mark, holder, id, zeroByte}
-use Rattle.rules.specs.Roster.{Range, Slot, kindAt, transport}
-use Rattle.rules.specs.Sound.{behind, sourceSound, markSound, stockSound, holdSound, once}
-
--- an address lies in a range
-unfoldable pub lies : Range → ℕ → Bool
-lies r a = allOf (leb (r .first) a ∷ ltb a (behind r) ∷ [])
+use Rattle.rules.specs.Roster.{Slot, kindAt, transport}
+use Rattle.rules.specs.Sound.{sourceSound, markSound, stockSound, holdSound, once}
 
 -- ---- an element by itself, and beside those before it; u is the unit's holder, top the last volume number
 

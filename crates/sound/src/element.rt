@@ -4,49 +4,16 @@ ghost use mathlib.Core.Path.{_≡_};
 ghost use mathlib.Core.Bool.{true};
 ghost use Prim.Native.Nat.{_+_, _*_, _≤_};
 ghost use lib.ListN.{length};
-ghost use Rattle.rules.specs.Choice.{differ};
 ghost use Rattle.rules.specs.Tables.{elementSize, elementAt, holder, id};
-ghost use Rattle.rules.specs.Roster.{kindOf};
 ghost use Rattle.rules.specs.Sound.{sourceSound, markSound, holdSound, elementsSound};
-ghost use Rattle.tables.specs.Ranges.{meaning, laid, Typed};
-ghost use Rattle.sound.specs.Checks.{lies, lastOf, endingSound, fitBy, soundTo, Marks, Run};
+ghost use Rattle.tables.specs.Ranges.{laid};
+ghost use Rattle.sound.specs.Checks.{lastOf, endingSound, fitBy, soundTo, Marks, Run};
 
 // A mark for each volume number, and none for 0.
 const SEEN: usize = layout::MOST_VOLUMES + 1;
 
-// An address lies in a range.
-fn lies_in(r: Range, address: u32) -> bool
-    ensures { λ b. ⌜ b ≡ lies (meaning r) address ⌝ }
-{
-    let first = r.first as u32;
-    if address < first {
-        return false;
-    }
-    if address >= first + (r.count as u32) {
-        return false;
-    }
-    true
-}
-
-// An address is an element's if it lies in one of the runs.
-fn is_element(runs: [Range; 4], address: u16) -> bool
-    requires { ⌜ Typed runs ⌝ }
-    ensures { λ r. ⌜ r ≡ differ (kindOf (laid runs) address) 0 ⌝ }
-{
-    let a = address as u32;
-    let mut k: usize = 0;
-    while k < 4 {
-        if lies_in(runs[k], a) {
-            return true;
-        }
-        k += 1;
-    }
-    false
-}
-
-// "A source is 0 or an element's address, and 0 where empty."
+// "Sound tables now allow only a storage address or 0", "and 0 where empty"
 fn source_sound(runs: [Range; 4], volume: u16, source: u16) -> bool
-    requires { ⌜ Typed runs ⌝ }
     ensures { λ r. ⌜ r ≡ sourceSound (laid runs) volume source ⌝ }
 {
     if source == 0 {
@@ -55,7 +22,7 @@ fn source_sound(runs: [Range; 4], volume: u16, source: u16) -> bool
     if volume == 0 {
         return false;
     }
-    is_element(runs, source)
+    tables::kind_of(runs, source) == layout::STORAGE
 }
 
 // "Each volume number is at most V"; "Transports are empty.": the last number that may stand in an element of a type.
@@ -133,7 +100,6 @@ fn held_sound(unit: u8, elements: &[u8], p: usize) -> bool
 
 // The element at a place by itself, as one of a type whose last volume number is this.
 fn fits(runs: [Range; 4], unit: u8, last: usize, kind: u8, elements: &[u8], p: usize) -> bool
-    requires { ⌜ Typed runs ⌝ }
     requires { ⌜ elementAt p + elementSize ≤ length (now elements) ⌝ }
     ensures { λ r. ⌜ r ≡ fitBy unit last (laid runs) (now (elements .entry)) kind p ⌝ }
 {
@@ -162,7 +128,6 @@ fn run_sound(
     elements: &[u8],
     seen: &mut [u8; SEEN],
 ) -> bool
-    requires { ⌜ Typed runs ⌝ }
     requires { ⌜ Run unit top (laid runs) (now elements) kind first end (now seen) ⌝ }
     ensures { λ r. ⌜ r ≡ soundTo unit top (laid runs) (now (elements .entry)) end ⌝ }
     ensures { λ r. ⌜ (r ≡ true → Marks (now (elements .entry)) end (now (seen .exit))) ⌝ }
@@ -187,7 +152,6 @@ fn run_sound(
 
 // Every place, one run after the other, each once.
 fn places_sound(runs: [Range; 4], unit: u8, top: usize, elements: &[u8]) -> bool
-    requires { ⌜ Typed runs ⌝ }
     requires { ⌜ top ≤ 512 ⌝ }
     requires { ⌜ length (now elements) ≡ elementSize * length (laid runs) ⌝ }
     ensures { λ r. ⌜ r ≡ soundTo unit top (laid runs) (now (elements .entry)) (length (laid runs)) ⌝ }
@@ -209,7 +173,6 @@ fn places_sound(runs: [Range; 4], unit: u8, top: usize, elements: &[u8]) -> bool
 
 // The elements of the runs, where the unit's holder and the last volume number are these.
 pub fn elements_sound(runs: [Range; 4], unit: u8, top: usize, elements: &[u8]) -> bool
-    requires { ⌜ Typed runs ⌝ }
     requires { ⌜ top ≤ 512 ⌝ }
     ensures { λ r. ⌜ r ≡ elementsSound (laid runs) unit top (now (elements .entry)) ⌝ }
 {

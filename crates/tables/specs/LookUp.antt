@@ -7,6 +7,7 @@ use lib.Dec.{eqb, ltb}
 use Rattle.rules.specs.Choice.{when, differ}
 use Rattle.rules.specs.Roster.{Slot, placeOf, kindAt, kindOf, transport, port}
 use Rattle.tables.specs.declared.Slot.{Slot as Declared}
+use Rattle.tables.specs.declared.Spot.{Spot}
 use Rattle.tables.specs.declared.Types.{Types}
 use Rattle.tables.specs.declared.Types.the-variants.{Any, Transport, Place, Port}
 use Rattle.tables.specs.declared.Found.{Found}
@@ -22,6 +23,10 @@ admits Port k = eqb k port
 -- the place of an address, if it is an element's of these types
 unfoldable pub found : Types → List Slot → ℕ → Found
 found ts ss a = when (admits ts (kindOf ss a)) (At (placeOf ss a)) Nothing
+
+-- type and place of an address: 0 and the number of elements where it is no element's
+unfoldable pub spotOf : List Slot → ℕ → Spot
+spotOf ss a = record { kind = kindOf ss a; place = placeOf ss a }
 
 -- by cases on a look-up's answer
 unfoldable pub onFound : {A : Type 0} → Found → (ℕ → A) → A → A

@@ -4,9 +4,10 @@ use mathlib.Core.Path.{_≡_}
 use mathlib.Core.List.{List, [], _∷_, map, _++_}
 use mathlib.Core.Bool.{Bool}
 use lib.ListN.{getD, take, drop}
-use lib.Dec.{eqb}
+use lib.Dec.{eqb, leb, ltb}
 use Rattle.rules.specs.Choice.{allOf, differ}
 use Rattle.rules.specs.Roster.{Range, Slot, ranges, insert, sorted, spread, transport}
+use Rattle.rules.specs.Sound.{behind}
 use Rattle.tables.specs.declared.Range.{Range as Declared}
 
 abbrev pub meaning : Declared → Range
@@ -30,6 +31,10 @@ noRange = record { kind = 0; first = 0; count = 0 }
 -- the range at k put to its place among those behind it
 unfoldable pub inserted : ℕ → List Range → List Range
 inserted k rs = take k rs ++ insert (getD rs k noRange) (drop (suc k) rs)
+
+-- an address lies in a range
+unfoldable pub lies : Range → ℕ → Bool
+lies r a = allOf (leb (r .first) a ∷ ltb a (behind r) ∷ [])
 
 -- the range holds transports
 unfoldable pub leads : Range → Bool

@@ -9,9 +9,9 @@ ghost use Prim.Native.Nat.{_+_, _≤_, _<_};
 ghost use lib.ListN.{length};
 ghost use Rattle.rules.specs.Choice.{when};
 ghost use Rattle.rules.specs.Tables.{headSize, volumes as volumesOf};
-ghost use Rattle.rules.specs.Roster.{range, ranges as rangesOf, sorted as sortedOf, firstTransport};
-ghost use Rattle.tables.specs.Ranges.{meaning, meant, laid, inserted, leads, Runs};
-ghost use Rattle.tables.specs.LookUp.{admits, found, slotAt};
+ghost use Rattle.rules.specs.Roster.{range, ranges as rangesOf, sorted as sortedOf, kindOf, firstTransport};
+ghost use Rattle.tables.specs.Ranges.{meaning, meant, laid, inserted, lies, leads, Runs};
+ghost use Rattle.tables.specs.LookUp.{admits, found, slotAt, spotOf};
 
 // "each first address and count": of one type
 pub struct Range {
@@ -24,6 +24,12 @@ pub struct Range {
 pub struct Slot {
     pub kind: u8,
     pub address: u32,
+}
+
+// An element's type and place.
+pub struct Spot {
+    pub kind: u8,
+    pub place: usize,
 }
 
 // Of which types an element is looked for: any, a transport, one that is no transport, an import/export element.
@@ -136,6 +142,51 @@ fn slot_in(runs: [Range; 4], place: usize) -> Slot
         kind: 0,
         address: 0,
     }
+}
+
+// An address lies in a range.
+fn lies_in(r: Range, address: u32) -> bool
+    ensures { λ b. ⌜ b ≡ lies (meaning r) address ⌝ }
+{
+    let first = r.first as u32;
+    if address < first {
+        return false;
+    }
+    if address >= first + (r.count as u32) {
+        return false;
+    }
+    true
+}
+
+// Type and place of an address: those of the first run in which it lies; type 0, behind the last place, where it lies in none.
+fn spot_of(runs: [Range; 4], address: u32) -> Spot
+    ensures { λ r. ⌜ r ≡ spotOf (laid runs) address ⌝ }
+{
+    let mut passed: usize = 0;
+    let mut k: usize = 0;
+    while k < 4 {
+        let r = runs[k];
+        if lies_in(r, address) {
+            let within = address - (r.first as u32);
+            return Spot {
+                kind: r.kind,
+                place: passed + (within as usize),
+            };
+        }
+        passed += r.count as usize;
+        k += 1;
+    }
+    Spot {
+        kind: 0,
+        place: passed,
+    }
+}
+
+// The type of an address; 0 where it is no element's.
+pub fn kind_of(runs: [Range; 4], address: u16) -> u8
+    ensures { λ r. ⌜ r ≡ kindOf (laid runs) address ⌝ }
+{
+    spot_of(runs, address as u32).kind
 }
 
 // An element of this type is looked for.

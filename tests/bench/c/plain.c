@@ -58,6 +58,13 @@ static inline unsigned find(const library *l, unsigned address, unsigned *kind)
     return NOWHERE;
 }
 
+static inline bool is_shelf(const library *l, unsigned address)
+{
+    unsigned kind = 0;
+    find(l, address, &kind);
+    return kind == STORAGE;
+}
+
 static bool read_ranges(library *l)
 {
     unsigned of_kind[5] = {0};
@@ -100,12 +107,12 @@ static bool elements_sound(const library *l)
     for (unsigned r = 0; r < l->filled; r++) {
         const unsigned kind = l->ranges[r].kind, most = kind == TRANSPORT ? 0 : l->volumes;
         for (const uint8_t *end = e + SMC_ELEMENT_SIZE * l->ranges[r].count; e < end; e += SMC_ELEMENT_SIZE) {
-            unsigned volume = get16(e + VOLUME), source = get16(e + SOURCE), unused;
+            unsigned volume = get16(e + VOLUME), source = get16(e + SOURCE);
             if (volume > most || e[ZERO])
                 return false;
             if (volume && seen[volume]++)
                 return false;
-            if (source && (!volume || find(l, source, &unused) == NOWHERE))
+            if (source && (!volume || !is_shelf(l, source)))
                 return false;
             if (e[MARK] && (e[MARK] != 1 || kind != PORT || !volume))
                 return false;
@@ -260,6 +267,12 @@ static inline void fill(uint8_t *e, unsigned volume, unsigned source)
     e[MARK] = 0;
 }
 
+/* The source that a volume takes along: the shelf that it leaves, else the one that it had. */
+static inline unsigned shelf_of(const library *l, const uint8_t *e, unsigned address)
+{
+    return is_shelf(l, address) ? address : get16(e + SOURCE);
+}
+
 static smc_reply move(library *l, const request *q)
 {
     unsigned source = get16(q->block + 4), destination = get16(q->block + 6);
@@ -272,14 +285,14 @@ static smc_reply move(library *l, const request *q)
         return SOURCE_EMPTY;
     if (get16(d + VOLUME))
         return DESTINATION_FULL;
-    fill(d, get16(s + VOLUME), source);
+    fill(d, get16(s + VOLUME), shelf_of(l, s, source));
     fill(s, 0, 0);
     return GOOD;
 }
 
 static smc_reply exchange(library *l, const request *q)
 {
-    unsigned source = get16(q->block + 4), first = get16(q->block + 6), second = get16(q->block + 8), up, down;
+    unsigned source = get16(q->block + 4), first = get16(q->block + 6), second = get16(q->block + 8), up, down, up_shelf, down_shelf;
     uint8_t *t = transport(l, get16(q->block + 2)), *s = spot(l, source), *f = spot(l, first), *g = spot(l, second);
     if (!t || !s || !f || !g || f == s)
         return WRONG_ADDRESS;
@@ -291,9 +304,11 @@ static smc_reply exchange(library *l, const request *q)
         return SOURCE_EMPTY;
     if (g != s && get16(g + VOLUME))
         return DESTINATION_FULL;
+    up_shelf = shelf_of(l, s, source);
+    down_shelf = shelf_of(l, f, first);
     fill(s, 0, 0);
-    fill(f, up, source);
-    fill(g, down, first);
+    fill(f, up, up_shelf);
+    fill(g, down, down_shelf);
     return GOOD;
 }
 

@@ -16,7 +16,7 @@ const FIRST_SHELF: u16 = 0x1000;
 const MOST_DESCRIPTORS: u16 = 32;
 
 /// The small library's addresses with as many shelves as make up the size. Every second shelf is full, and every
-/// second volume came from the drive.
+/// second volume came from the shelf beside it.
 pub fn library(elements: u16) -> TableBytes {
     let shelves = elements - 3;
     let ranges = [
@@ -34,7 +34,7 @@ pub fn library(elements: u16) -> TableBytes {
     for shelf in 0..shelves {
         let (volume, source) = match shelf % 4 {
             0 => (shelf / 2 + 1, 0),
-            2 => (shelf / 2 + 1, DRIVE),
+            2 => (shelf / 2 + 1, FIRST_SHELF + shelf - 1),
             _ => (0, 0),
         };
         table.extend(volume.to_be_bytes());

@@ -77,6 +77,12 @@ impl Scene {
         self.element(place)[..2].copy_from_slice(&volume.to_be_bytes());
     }
 
+    /// 0 for none.
+    pub fn source(&self, place: usize) -> u16 {
+        let elements = &self.tables.elements;
+        u16::from_be_bytes([elements[8 * place + 2], elements[8 * place + 3]])
+    }
+
     pub fn set_source(&mut self, place: usize, source: u16) {
         self.element(place)[2..4].copy_from_slice(&source.to_be_bytes());
     }

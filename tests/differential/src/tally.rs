@@ -1,10 +1,12 @@
 //! Which outcomes a run has reached, how often, and which it must reach to count.
 
 mod mode;
+mod shelves;
 
 use std::collections::BTreeMap;
 use std::fmt;
 
+use reference::library::Kind;
 use reference::{check, Clause, Entry, TableBytes};
 
 use crate::call::Call;
@@ -12,6 +14,7 @@ use crate::compare::Made;
 use crate::generate::calls::COMMANDS;
 
 pub use mode::{ModeCut, ModeFault};
+pub use shelves::{Had, Second, PLACES};
 
 /// "512 elements in four pages, with tags"
 const LARGEST_LISTING: u32 = 26_664;
@@ -120,6 +123,12 @@ pub enum Outcome {
     Long(Slice, Above, u8),
     /// All 512 elements with tags: 26,664 bytes.
     LargestListing,
+    /// GOOD: from which kind of place, and to which.
+    Moved(Kind, Had, Kind),
+    /// GOOD: the kinds of source and first destination, and which place the second is.
+    Exchanged((Kind, Had), (Kind, Had), Second),
+    /// House number 1: the kind of the element that stands as a source, none for no element's address.
+    WrongSource(Option<Kind>),
     /// GOOD, with the last of 127 transports named.
     LastOfMostTransports(First),
 }
@@ -156,6 +165,14 @@ impl fmt::Display for Outcome {
             Outcome::Long(slice, above, number) => {
                 format!("{slice:?} above {above:?}, house number {number}")
             }
+            Outcome::Moved(from, had, to) => format!("A5h: {from:?} to {to:?}, {had:?}"),
+            Outcome::Exchanged((source, of_source), (first, of_first), second) => {
+                format!("A6h: {source:?} {of_source:?}, {first:?} {of_first:?}, second {second:?}")
+            }
+            Outcome::WrongSource(kind) => match kind {
+                Some(kind) => format!("not sound: source is of kind {kind:?}"),
+                None => "not sound: source is no element".into(),
+            },
             Outcome::LargestListing => "listing of 26,664 bytes".into(),
             Outcome::LastOfMostTransports(first) => {
                 format!("{first}: GOOD by the last of 127 transports")
@@ -191,7 +208,7 @@ impl Tally {
 impl fmt::Display for Tally {
     fn fmt(&self, out: &mut fmt::Formatter) -> fmt::Result {
         for (outcome, times) in &self.reached {
-            writeln!(out, "  {outcome:<52} {times:>8}")?;
+            writeln!(out, "  {outcome:<60} {times:>8}")?;
         }
         Ok(())
     }
@@ -216,7 +233,11 @@ fn outcomes(before: &TableBytes, call: &Call, made: &Made) -> Vec<Outcome> {
     }
     reached.extend(long_slices(before, call, made));
     if number == 1 {
-        reached.extend(check(&before.clone().lend()).err().map(Outcome::Broken));
+        let broken = check(&before.clone().lend()).err();
+        reached.extend(broken.map(Outcome::Broken));
+        if broken == Some(Clause::SourceAddress) {
+            reached.extend(shelves::wrong_source(before));
+        }
     }
     if number == 7 {
         reached.push(Outcome::Preventers(made.reply.preventers));
@@ -265,8 +286,16 @@ fn command_outcomes(
             reached.extend(mode::cut(before, block));
             reached
         }
-        (_, First::Known(0xA5 | 0xA6)) if names_last_of_most_transports(before, block) => {
-            vec![Outcome::Good(first), Outcome::LastOfMostTransports(first)]
+        (_, First::Known(0xA5 | 0xA6)) => {
+            let mut reached = vec![Outcome::Good(first)];
+            reached.extend(match first {
+                First::Known(0xA5) => shelves::moved(before, block),
+                _ => shelves::exchanged(before, block),
+            });
+            if names_last_of_most_transports(before, block) {
+                reached.push(Outcome::LastOfMostTransports(first));
+            }
+            reached
         }
         _ => vec![Outcome::Good(first)],
     }
@@ -380,6 +409,7 @@ pub fn required() -> Vec<Outcome> {
     required.extend(Clause::ALL.map(Outcome::Broken));
     required.extend(required_listings());
     required.extend(mode::required());
+    required.extend(shelves::required());
     required.extend((1..=8).map(Outcome::Preventers));
     required.extend((1..=8).map(Outcome::Lowest));
     required.extend(required_lengths());

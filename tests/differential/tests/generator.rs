@@ -42,6 +42,47 @@ fn generated_tables_reach_the_edges_of_soundness() {
     ));
 }
 
+/// The kinds of the places with a source, and of those that are full and have none; sources that are full shelves and empty ones.
+#[test]
+fn generated_sources_are_shelves_and_stand_at_each_kind() {
+    let mut at: BTreeSet<(Kind, bool)> = BTreeSet::new();
+    let mut named: BTreeSet<bool> = BTreeSet::new();
+    for scene in scenes(1_000) {
+        for place in scene.places_where(|_, volume| volume != 0) {
+            let source = scene.source(place);
+            at.insert((scene.places[place].kind, source != 0));
+            let shelf = scene
+                .places
+                .iter()
+                .position(|other| other.address == source);
+            if let Some(shelf) = shelf {
+                assert_eq!(scene.places[shelf].kind, Kind::Storage);
+                named.insert(scene.volume(shelf) != 0);
+            }
+        }
+    }
+    assert_eq!((at.len(), named.len()), (6, 2), "{at:?} {named:?}");
+}
+
+#[test]
+fn wrong_sources_are_of_each_kind_but_storage() {
+    let mut random = Random::new(4);
+    let mut kinds: BTreeSet<Option<Kind>> = BTreeSet::new();
+    for _ in 0..400 {
+        let scene = faults::broken_scene(&mut random, Clause::SourceAddress);
+        for place in scene.places_where(|_, volume| volume != 0) {
+            let source = scene.source(place);
+            let named = scene.places.iter().find(|other| other.address == source);
+            if source != 0 {
+                kinds.insert(named.map(|place| place.kind));
+            }
+        }
+    }
+    // None stands for no element's address; storage is that of the sources that were not broken.
+    let expected = Kind::ALL.into_iter().map(Some).chain([None]);
+    assert_eq!(kinds, expected.collect());
+}
+
 #[test]
 fn the_kinds_come_in_every_address_order() {
     let order = |scene: &Scene| -> Vec<Kind> {

@@ -1,12 +1,13 @@
 //! Long histories on the reference: what must hold after any of them.
 
-use std::collections::BTreeSet;
+use std::collections::{BTreeMap, BTreeSet};
 
 use differential::call::Call;
 use differential::compare::make;
 use differential::generate::{calls, sound};
 use differential::random::Random;
 use differential::scene::Scene;
+use reference::library::Kind;
 use reference::{check, Reference, Reply, TableBytes};
 
 fn volumes(tables: &TableBytes) -> BTreeSet<u32> {
@@ -60,6 +61,59 @@ fn tables_stay_sound_and_no_volume_is_lost_or_found() {
             }
         }
     }
+}
+
+/// The volumes and what stands beside each as its source.
+fn sources(scene: &Scene) -> BTreeMap<u16, u16> {
+    let full = scene.places_where(|_, volume| volume != 0);
+    let with_source = |place: usize| (scene.volume(place), scene.source(place));
+    full.into_iter().map(with_source).collect()
+}
+
+/// What the sources should be after the call, by where each volume stood before it and stands after it: none for one that came in, the
+/// storage element that it left, else what it was.
+fn sources_after(before: &Scene, after: &Scene) -> BTreeMap<u16, u16> {
+    let old = sources(before);
+    let left = |volume: u16| {
+        let stood = |place: &usize| before.volume(*place) == volume;
+        let place = (0..before.places.len()).find(stood)?;
+        let is_left = after.volume(place) != volume && before.places[place].kind == Kind::Storage;
+        is_left.then(|| before.places[place].address)
+    };
+    let full = after.places_where(|_, volume| volume != 0);
+    let expected = |place: usize| {
+        let volume = after.volume(place);
+        let kept = old.get(&volume).copied().unwrap_or(0);
+        (volume, left(volume).unwrap_or(kept))
+    };
+    full.into_iter().map(expected).collect()
+}
+
+#[test]
+fn a_source_is_the_last_shelf_that_the_volume_left() {
+    let mut random = Random::new(13);
+    let mut kept = 0;
+    for history in 0..60 {
+        let mut scene = match history % 2 {
+            0 => sound::small_scene(&mut random),
+            _ => sound::scene(&mut random),
+        };
+        for _ in 0..200 {
+            let call = calls::plausible(&mut random, &scene);
+            let before = scene.clone();
+            happen(&mut scene, &call);
+            let expected = sources_after(&before, &scene);
+            assert_eq!(sources(&scene), expected, "{call}");
+            let carried = |place: &usize| {
+                let volume = before.volume(*place);
+                let with_source = volume != 0 && before.source(*place) != 0;
+                with_source && scene.volume(*place) != volume && expected.contains_key(&volume)
+            };
+            let no_shelves = before.places_where(|kind, _| kind != Kind::Storage);
+            kept += no_shelves.iter().filter(|&place| carried(place)).count();
+        }
+    }
+    assert!(kept > 100, "{kept}");
 }
 
 #[test]

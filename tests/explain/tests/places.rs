@@ -196,8 +196,16 @@ fn elements() {
     expect(
         with(3, [0, 1, 0x10, 4, 0, 0, 0, 0]),
         of_element(19, 3, 0x1004),
-        "clause 19, a source is 0 or an element's address: element 1000h (place 3): source 1004h",
+        "clause 19, a source is 0 or a storage element's address: element 1000h (place 3): source 1004h",
     );
+    for (high, low) in [(0x00, 0x01), (0x00, 0x10), (0x01, 0x00)] {
+        let source = u16::from_be_bytes([high, low]);
+        expect(
+            with(5, [0, 2, high, low, 0, 0, 0, 0]),
+            of_element(19, 5, source.into()),
+            &format!("clause 19, a source is 0 or a storage element's address: element 1002h (place 5): source {source:04X}h"),
+        );
+    }
     expect(with(6, [0, 3, 0, 0, 0, 0, 1, 0]), of_element(20, 6, 1), "clause 20, the mark is 1 only on a full import/export element, else 0: element 1003h (place 6): mark 1");
     expect(
         with(1, [0, 0, 0, 0, 0, 0, 0, 7]),

@@ -122,11 +122,18 @@ impl Element {
     }
 
     /// "a place filled by the arm has mark 0"
-    pub fn fill_by_arm(&mut self, volume: Option<u16>, taken_from: u16) {
-        self.volume = volume;
-        self.source = Some(taken_from);
+    pub fn fill_by_arm(&mut self, carried: Carried) {
+        self.volume = carried.volume;
+        self.source = carried.source;
         self.hand_mark = false;
     }
+}
+
+/// What the arm carries from one place to another: a volume, and "the last storage element that held it".
+#[derive(Clone, Copy, Debug, PartialEq, Eq)]
+pub struct Carried {
+    pub volume: Option<u16>,
+    pub source: Option<u16>,
 }
 
 #[derive(Clone, Debug, PartialEq, Eq)]

@@ -2,7 +2,7 @@
 
 use crate::bytes::two;
 use crate::command::{Call, Outcome, Unsuccessful, DESTINATION_FULL, SOURCE_EMPTY, WRONG_ADDRESS};
-use crate::library::{Element, Kind, Library};
+use crate::library::{Carried, Element, Kind, Library};
 use crate::rules::Mutation;
 
 pub(crate) fn move_medium(library: &mut Library, call: &Call) -> Outcome {
@@ -18,7 +18,8 @@ pub(crate) fn move_medium(library: &mut Library, call: &Call) -> Outcome {
     judge_touched(library, call, &[transport, source, destination], occupancy)?;
 
     let marked = library.elements[&source].hand_mark;
-    carry(library, source, destination);
+    let lifted = lift(library, call, source);
+    place(library, destination).fill_by_arm(lifted);
     if call.broken_by(Mutation::MarkLeftAfterMove) {
         place(library, source).hand_mark = marked;
     }
@@ -44,10 +45,14 @@ pub(crate) fn exchange_medium(library: &mut Library, call: &Call) -> Outcome {
     let touched = [transport, source, first, second];
     judge_touched(library, call, &touched, occupancy)?;
 
-    if call.broken_by(Mutation::SwapWritesSourceBeforeReadingIt) {
-        write_before_reading(library, source, first, second);
-    } else {
-        exchange(library, source, first, second);
+    let places = [source, first, second];
+    match call.rules.mutation {
+        Some(Mutation::SwapWritesSourceBeforeReadingIt) => {
+            write_before_reading(library, call, places);
+        }
+        Some(Mutation::SecondLegReadsAfterWriting) => second_leg_late(library, call, places),
+        Some(Mutation::SwapReadsShelfAfterWriting) => first_leg_late(library, call, places),
+        _ => exchange(library, call, places),
     }
     if call.broken_by(Mutation::SecondVolumeLost) {
         place(library, second).leave();
@@ -106,26 +111,68 @@ fn place(library: &mut Library, address: u16) -> &mut Element {
         .expect("an address that was looked up")
 }
 
-fn carry(library: &mut Library, from: u16, to: u16) {
+/// "a volume leaving a storage element takes that address; leaving any other, it keeps the source it had, none included"
+fn source_taken(library: &Library, call: &Call, left: u16) -> Option<u16> {
+    let element = &library.elements[&left];
+    match element.kind {
+        Kind::Storage => Some(left),
+        Kind::Drive if call.broken_by(Mutation::DriveTakenAsSource) => Some(left),
+        Kind::ImportExport if call.broken_by(Mutation::PortTakenAsSource) => Some(left),
+        Kind::Drive if call.broken_by(Mutation::SourceLostOnLeavingDrive) => None,
+        Kind::ImportExport if call.broken_by(Mutation::SourceLostOnLeavingPort) => None,
+        Kind::Drive | Kind::ImportExport | Kind::Transport => element.source,
+    }
+}
+
+fn lift(library: &mut Library, call: &Call, from: u16) -> Carried {
+    let source = source_taken(library, call, from);
     let volume = place(library, from).leave();
-    place(library, to).fill_by_arm(volume, from);
+    Carried { volume, source }
 }
 
 /// "The first destination's volume goes to the second, the source's to the first". Both are lifted
 /// before either is put down, for the second may be the source.
-fn exchange(library: &mut Library, source: u16, first: u16, second: u16) {
-    let from_source = place(library, source).leave();
-    let from_first = place(library, first).leave();
-    place(library, second).fill_by_arm(from_first, first);
-    place(library, first).fill_by_arm(from_source, source);
+fn exchange(library: &mut Library, call: &Call, [source, first, second]: [u16; 3]) {
+    let from_source = lift(library, call, source);
+    let from_first = lift(library, call, first);
+    place(library, second).fill_by_arm(from_first);
+    place(library, first).fill_by_arm(from_source);
 }
 
-fn write_before_reading(library: &mut Library, source: u16, first: u16, second: u16) {
-    let from_first = place(library, first).leave();
-    place(library, second).fill_by_arm(from_first, first);
-    let from_source = place(library, source).volume;
-    place(library, first).fill_by_arm(from_source, source);
+fn write_before_reading(library: &mut Library, call: &Call, [source, first, second]: [u16; 3]) {
+    let from_first = lift(library, call, first);
+    place(library, second).fill_by_arm(from_first);
+    let from_source = Carried {
+        volume: library.elements[&source].volume,
+        source: source_taken(library, call, source),
+    };
+    place(library, first).fill_by_arm(from_source);
     if second != source {
         place(library, source).leave();
     }
+}
+
+/// Both volumes go where they should. What goes to the second takes the source that was put beside what came to the first.
+fn second_leg_late(library: &mut Library, call: &Call, [source, first, second]: [u16; 3]) {
+    let from_source = lift(library, call, source);
+    let volume = library.elements[&first].volume;
+    place(library, first).fill_by_arm(from_source);
+    let source = source_taken(library, call, first);
+    place(library, second).fill_by_arm(Carried { volume, source });
+}
+
+/// The same the other way round, which shows in a swap alone.
+fn first_leg_late(library: &mut Library, call: &Call, [source, first, second]: [u16; 3]) {
+    let from_first = lift(library, call, first);
+    let volume = library.elements[&source].volume;
+    place(library, second).fill_by_arm(from_first);
+    let shelf = source_taken(library, call, source);
+    if second != source {
+        place(library, source).leave();
+    }
+    let from_source = Carried {
+        volume,
+        source: shelf,
+    };
+    place(library, first).fill_by_arm(from_source);
 }

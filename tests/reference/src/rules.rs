@@ -39,6 +39,17 @@ pub enum Mutation {
     SecondVolumeLost,
     SourceAsSecondIsFull,
 
+    // The last shelf.
+    DriveTakenAsSource,
+    PortTakenAsSource,
+    SourceLostOnLeavingDrive,
+    SourceLostOnLeavingPort,
+    SecondLegReadsAfterWriting,
+    SwapReadsShelfAfterWriting,
+    DriveIsSoundAsSource,
+    PortIsSoundAsSource,
+    TransportIsSoundAsSource,
+
     // Reservations.
     FailedReserveFreesOldId,
     GrantedReserveKeepsOldId,
@@ -78,7 +89,7 @@ pub enum Mutation {
 impl Mutation {
     /// Every mutation but [`Mutation::NotJudged`].
     #[rustfmt::skip]
-    pub const SINGLE: [Mutation; 52] = [
+    pub const SINGLE: [Mutation; 61] = [
         Mutation::HostCutToOneByte,
         Mutation::EventAddressCutToTwoBytes,
         Mutation::ImportedVolumeCutToTwoBytes,
@@ -104,6 +115,15 @@ impl Mutation {
         Mutation::SwapWritesSourceBeforeReadingIt,
         Mutation::SecondVolumeLost,
         Mutation::SourceAsSecondIsFull,
+        Mutation::DriveTakenAsSource,
+        Mutation::PortTakenAsSource,
+        Mutation::SourceLostOnLeavingDrive,
+        Mutation::SourceLostOnLeavingPort,
+        Mutation::SecondLegReadsAfterWriting,
+        Mutation::SwapReadsShelfAfterWriting,
+        Mutation::DriveIsSoundAsSource,
+        Mutation::PortIsSoundAsSource,
+        Mutation::TransportIsSoundAsSource,
         Mutation::FailedReserveFreesOldId,
         Mutation::GrantedReserveKeepsOldId,
         Mutation::ElementNamedTwiceIsHeldOnce,

@@ -91,7 +91,7 @@ impl Clause {
             Clause::VolumeTwice => "a volume stands at most once",
             Clause::ZeroByte => "the zero byte 0",
             Clause::TransportEmpty => "transports are empty",
-            Clause::SourceAddress => "a source is an element's address",
+            Clause::SourceAddress => "a source is a storage address",
             Clause::SourceWhereEmpty => "source 0 where empty",
             Clause::MarkPlace => "mark only on a full import/export",
             Clause::HolderNumber => "holder at most 8",
@@ -208,18 +208,31 @@ impl Judge {
 
     fn places(&self, elements: &[ElementRecord], ranges: &[AddressRange]) -> Result<(), Clause> {
         let every = |holds: fn(&ElementRecord) -> bool| elements.iter().all(holds);
-        let is_element = |address: u16| {
+        let may_be_source = |address: u16| {
             let mut ranges = ranges.iter();
-            ranges.any(|range| range.addresses().contains(&address.into()))
+            let holds = |range: &&AddressRange| range.addresses().contains(&address.into());
+            let named = ranges.find(holds);
+            named.is_some_and(|range| self.is_source_kind(range.kind))
         };
         let sources_stand = elements
             .iter()
-            .all(|element| element.source == 0 || is_element(element.source));
+            .all(|element| element.source == 0 || may_be_source(element.source));
         self.require(every(zero_byte), Clause::ZeroByte)?;
         self.require(every(transport_empty), Clause::TransportEmpty)?;
         self.require(sources_stand, Clause::SourceAddress)?;
         self.require(every(no_source_where_empty), Clause::SourceWhereEmpty)?;
         self.require(every(mark_in_place), Clause::MarkPlace)
+    }
+
+    /// "Sound tables now allow only a storage address or 0."
+    fn is_source_kind(&self, kind: Kind) -> bool {
+        let mistake = match kind {
+            Kind::Storage => return true,
+            Kind::Drive => Mutation::DriveIsSoundAsSource,
+            Kind::ImportExport => Mutation::PortIsSoundAsSource,
+            Kind::Transport => Mutation::TransportIsSoundAsSource,
+        };
+        self.rules.broken_by(mistake)
     }
 
     fn holders(&self, records: &Records) -> Result<(), Clause> {

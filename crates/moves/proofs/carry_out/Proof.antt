@@ -27,7 +27,7 @@ returns : tie.Need-returns
 unfolding meaning
 returns c =
     let done = c .before .before .before .before .before .before in
-    λ rest buffer. rw (done .before .before .before .ruling .given .1) (moved-ends _ _ _ _ _ rest buffer _ _ (c .before .before .good2 .ensures) _ _ _ (done .carry .ensures))
+    λ rest buffer. rw (done .before .before .before .ruling .given .1) (moved-ends _ _ _ _ _ _ rest buffer _ _ (c .before .before .good2 .ensures) _ _ _ (done .carry .ensures))
 
 enum-known-ruling-2 : tie.Need-enum-known-ruling-2
 enum-known-ruling-2 c = search needs
@@ -50,7 +50,7 @@ returns-2 : tie.Need-returns-2
 unfolding meaning
 returns-2 c =
     let done = c .before .before .before .before .before .before in
-    λ rest buffer. rw (done .before .before .before .ruling2 .given .1) (exchanged-ends _ _ _ _ _ rest buffer _ _ (c .before .before .good3 .ensures) _ _ _ _ _ (done .swap .ensures))
+    λ rest buffer. rw (done .before .before .before .ruling2 .given .1) (exchanged-ends _ _ _ _ _ _ rest buffer _ _ (c .before .before .good3 .ensures) _ _ _ _ _ (done .swap .ensures))
 
 enum-known-ruling-3 : tie.Need-enum-known-ruling-3
 enum-known-ruling-3 c = search needs

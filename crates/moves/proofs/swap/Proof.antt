@@ -1,52 +1,49 @@
 -- `moves::swap` meets its contract. Assumes nothing.
 use Rattle.rules.specs.Tables.{places}
-use Rattle.moves.proofs.Carried.{swapped-by}
+use Rattle.moves.proofs.Carried.{swapped-by, shelf-by, shelves}
 use borrow.Author.Needs.{needs}
 use Rattle.moves.proofs.swap.Statement.{statement}
 use Rattle.moves.proofs.swap.Tie as tie
+
+word-at-requires : tie.Need-word-at-requires
+word-at-requires c κs = search needs
+
+shelf-of-requires : tie.Need-shelf-of-requires
+unfolding places
+shelf-of-requires c κs = search needs
+
+word-at-requires-2 : tie.Need-word-at-requires-2
+word-at-requires-2 c κs = search needs
+
+shelf-of-requires-2 : tie.Need-shelf-of-requires-2
+unfolding places
+shelf-of-requires-2 c κs = search needs
 
 fill-requires : tie.Need-fill-requires
 unfolding places
 fill-requires c κs = search needs
 
+shift-requires : tie.Need-shift-requires
+unfolding places
+shift-requires c κs = search needs
+
 fill-requires-2 : tie.Need-fill-requires-2
 unfolding places
 fill-requires-2 c κs = search needs
-
-word-at-requires : tie.Need-word-at-requires
-word-at-requires c κs = search needs
-
-fill-requires-3 : tie.Need-fill-requires-3
-unfolding places
-fill-requires-3 c κs = search needs
-
-word-at-requires-2 : tie.Need-word-at-requires-2
-word-at-requires-2 c κs = search needs
-
-fill-requires-4 : tie.Need-fill-requires-4
-unfolding places
-fill-requires-4 c κs = search needs
 
 same-length : tie.Need-same-length
 same-length c = search needs
 
 returns : tie.Need-returns
 returns c =
-    let last = c .before .before in
-    let third = last .before .before .before .before .before in
-    let second = third .before .before .before .before .before in
+    let third = c .before .before in
+    let second = third .before .before .before .before in
     let first = second .before .before .before .before in
-    swapped-by _ _ _ _ _ _ _ _ _ _ _ _ _ (first .fill .ensures) (second .fill2 .ensures) (third .before .word-at .ensures) (third .fill3 .ensures) (last .before .word-at2 .ensures) (last .fill4 .ensures)
+    let brought = first .before .before in
+    let displaced = brought .before .before .before in
+    swapped-by _ _ _ _ _ _ _ _ _ _ _ _ _ (third .fill2 .ensures) (second .shift .ensures) (first .fill .ensures)
+    (shelf-by _ _ _ _ _ _ (brought .shelf-of2 .ensures) (brought .before .word-at2 .ensures))
+    (shelf-by _ _ _ _ _ _ (displaced .shelf-of .ensures) (displaced .before .word-at .ensures))
 
 pub swap-spec : {M : Type 1} → statement M
-swap-spec =
-    tie.close
-    (tie.spec
-    fill-requires
-    fill-requires-2
-    word-at-requires
-    fill-requires-3
-    word-at-requires-2
-    fill-requires-4
-    same-length
-    returns)
+swap-spec = tie.close (tie.spec word-at-requires shelf-of-requires word-at-requires-2 shelf-of-requires-2 fill-requires shift-requires fill-requires-2 same-length returns)

@@ -1,6 +1,5 @@
 -- `sound::parts_sound` meets its contract. Assumes nothing.
 use Rattle.rules.specs.Sound.{sound}
-use Rattle.tables.proofs.Roster.{runs-typed}
 use Rattle.sound_head.proofs.Tests.{tests, all-not-go, all-last}
 use Rattle.sound.proofs.Whole.{rest-top, sound-by}
 use borrow.Author.Needs.{needs}
@@ -27,13 +26,10 @@ unit-requires c κs = search needs
 volumes-requires : tie.Need-volumes-requires
 volumes-requires c κs = search needs
 
--- the runs are the head's, as was asked of the caller
-ruleset typed = (needs, runs-typed)
-
 elements-sound-requires : tie.Need-elements-sound-requires
 elements-sound-requires c κs =
     let two = c .before .before in
-    (search typed, rest-top _ _ _ (two .before .rest-sound .ensures) (two .if2 .left) (c .volumes .ensures))
+    rest-top _ _ _ (two .before .rest-sound .ensures) (two .if2 .left) (c .volumes .ensures)
 
 returns-3 : tie.Need-returns-3
 returns-3 c =

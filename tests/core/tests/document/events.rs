@@ -62,7 +62,7 @@ fn attention_is_set_only_for_hosts_with_none_and_sense_stays() {
 #[test]
 fn reset_frees_and_clears_and_tells_every_host() {
     let mut library = Library::small();
-    library.set_element(AT_0010, [0, 3, 0x00, 0x01, 0, 0, 1, 0]);
+    library.set_element(AT_0010, [0, 3, 0x10, 0x01, 0, 0, 1, 0]);
     let mut expected = library.clone();
     for host in 1..=8 {
         expected.set_host_record(host, AFTER_RESET);

@@ -1,4 +1,4 @@
-//! Document 01, and request One of document 02, against the reference and the built library. Every expected value is written out by hand.
+//! Document 01, and requests One and Two of document 02, against the reference and the built library. Every expected value is written out by hand.
 
 mod fixture;
 
@@ -10,6 +10,7 @@ mod mode_sense;
 mod moves;
 mod reservations;
 mod sense;
+mod shelves;
 mod shipped_errors;
 mod small_library;
 mod soundness;

@@ -19,7 +19,7 @@ fn the_place_left_and_the_place_filled_have_no_mark() {
     let mut library = with_marked_volume();
     assert_eq!(library.command(1, &move_block(0x0010, 0x1001)).reply, GOOD);
     assert_eq!(library.element(AT_0010), EMPTY);
-    assert_eq!(library.element(AT_1001), [0, 3, 0x00, 0x10, 0, 0, 0, 0]);
+    assert_eq!(library.element(AT_1001), [0, 3, 0, 0, 0, 0, 0, 0]);
     assert_eq!(library.command(1, &move_block(0x1001, 0x0010)).reply, GOOD);
     assert_eq!(library.element(AT_0010), [0, 3, 0x10, 0x01, 0, 0, 0, 0]);
     assert_eq!(library.element(AT_1001), EMPTY);
@@ -28,7 +28,7 @@ fn the_place_left_and_the_place_filled_have_no_mark() {
 #[test]
 fn a_move_forgets_the_older_source_and_keeps_reservations() {
     let mut library = Library::small();
-    library.set_element(AT_1000, [0, 1, 0x01, 0x00, 1, 4, 0, 0]);
+    library.set_element(AT_1000, [0, 1, 0x10, 0x03, 1, 4, 0, 0]);
     library.set_element(AT_0100, [0, 0, 0, 0, 1, 0, 0, 0]);
     assert_eq!(library.command(1, &move_block(0x1000, 0x0100)).reply, GOOD);
     assert_eq!(library.element(AT_1000), [0, 0, 0, 0, 1, 4, 0, 0]);
@@ -153,20 +153,20 @@ fn an_exchange_leaves_no_mark_wherever_the_marked_volume_stood() {
     let block = exchange_block(0x0010, 0x1000, 0x1001);
     assert_eq!(as_source.command(1, &block).reply, GOOD);
     assert_eq!(as_source.element(AT_0010), EMPTY);
-    assert_eq!(as_source.element(AT_1000), [0, 3, 0x00, 0x10, 0, 0, 0, 0]);
+    assert_eq!(as_source.element(AT_1000), [0, 3, 0, 0, 0, 0, 0, 0]);
     assert_eq!(as_source.element(AT_1001), [0, 1, 0x10, 0x00, 0, 0, 0, 0]);
 
     let mut as_first = with_marked_volume();
     let block = exchange_block(0x1000, 0x0010, 0x1001);
     assert_eq!(as_first.command(1, &block).reply, GOOD);
     assert_eq!(as_first.element(AT_0010), [0, 1, 0x10, 0x00, 0, 0, 0, 0]);
-    assert_eq!(as_first.element(AT_1001), [0, 3, 0x00, 0x10, 0, 0, 0, 0]);
+    assert_eq!(as_first.element(AT_1001), [0, 3, 0, 0, 0, 0, 0, 0]);
 
     let mut as_both = with_marked_volume();
     let block = exchange_block(0x0010, 0x1000, 0x0010);
     assert_eq!(as_both.command(1, &block).reply, GOOD);
     assert_eq!(as_both.element(AT_0010), [0, 1, 0x10, 0x00, 0, 0, 0, 0]);
-    assert_eq!(as_both.element(AT_1000), [0, 3, 0x00, 0x10, 0, 0, 0, 0]);
+    assert_eq!(as_both.element(AT_1000), [0, 3, 0, 0, 0, 0, 0, 0]);
 }
 
 #[test]

@@ -170,13 +170,24 @@ fn transports_are_empty() {
 }
 
 #[test]
-fn a_source_is_the_address_of_any_element() {
-    for source in [[0x00, 0x01], [0x00, 0x10], [0x10, 0x00], [0x10, 0x03]] {
+fn a_source_is_the_address_of_a_shelf() {
+    // Its own, a full one's, an empty one's.
+    for source in [[0, 0], [0x10, 0x00], [0x10, 0x02], [0x10, 0x03]] {
         expect_sound(|l| l.set_element(AT_1000, [0, 1, source[0], source[1], 0, 0, 0, 0]));
+        expect_sound(|l| l.set_element(AT_0010, [0, 3, source[0], source[1], 0, 0, 0, 0]));
+        expect_sound(|l| l.set_element(AT_0100, [0, 3, source[0], source[1], 0, 0, 0, 0]));
     }
-    for source in [[0x00, 0x02], [0x10, 0x04], [0xFF, 0xFF]] {
+    let no_shelf = [[0x00, 0x01], [0x00, 0x10], [0x01, 0x00]];
+    let no_element = [[0x00, 0x02], [0x0F, 0xFF], [0x10, 0x04], [0xFF, 0xFF]];
+    for source in no_shelf.into_iter().chain(no_element) {
         expect_broken(Clause::SourceAddress, |l| {
             l.set_element(AT_1000, [0, 1, source[0], source[1], 0, 0, 0, 0]);
+        });
+        expect_broken(Clause::SourceAddress, |l| {
+            l.set_element(AT_0010, [0, 3, source[0], source[1], 0, 0, 0, 0]);
+        });
+        expect_broken(Clause::SourceAddress, |l| {
+            l.set_element(AT_0100, [0, 3, source[0], source[1], 0, 0, 0, 0]);
         });
     }
     expect_broken(Clause::SourceWhereEmpty, |l| {

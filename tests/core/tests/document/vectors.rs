@@ -65,7 +65,7 @@ fn vector_2_exchange_from_shelf_to_drive_to_shelf() {
     let block = [0xA6, 0, 0, 0, 0x00, 0x01, 0x17, 0x71, 0x00, 0x02, 0, 0];
     assert_eq!(library.command(1, &block).reply, GOOD);
     assert_eq!(library.element(SHELF_1), EMPTY);
-    assert_eq!(library.element(SHELF_2), [0, 2, 0x17, 0x71, 0, 0, 0, 0]);
+    assert_eq!(library.element(SHELF_2), VOLUME_2);
     assert_eq!(library.element(DRIVE_6001), [0, 1, 0x00, 0x01, 0, 0, 0, 0]);
 }
 

@@ -219,16 +219,32 @@ fn break_element(random: &mut Random, scene: &mut Scene, clause: Clause) -> Opti
         }
         Clause::TransportEmpty => scene.set_volume(place, scene.absent_volume()?),
         Clause::SourceAddress => {
-            let source = unknown_address(random, scene).filter(|&source| source != 0)?;
-            scene.set_source(place, source as u16);
+            let source = wrong_source(random, scene)?;
+            scene.set_source(place, source);
         }
         Clause::SourceWhereEmpty => {
-            let source = random.pick_with_ends(&scene.places).address;
+            let shelves = scene.places_where(|kind, _| kind == Kind::Storage);
+            let source = scene.places[any_of(random, &shelves)?].address;
             scene.set_source(place, source);
         }
         _ => break_mark(random, scene, place),
     }
     Some(())
+}
+
+/// The address of a transport, of an import/export element or of a drive, or of no element.
+pub fn wrong_source(random: &mut Random, scene: &Scene) -> Option<u16> {
+    let wrong = [Kind::Transport, Kind::ImportExport, Kind::Drive];
+    match wrong.get(random.below(4)) {
+        Some(&wrong) => {
+            let places = scene.places_where(|kind, _| kind == wrong);
+            any_of(random, &places).map(|place| scene.places[place].address)
+        }
+        None => {
+            let unknown = unknown_address(random, scene).filter(|&source| source != 0);
+            unknown.map(|source| source as u16)
+        }
+    }
 }
 
 /// Two-byte addresses beside the elements, at the edges or anywhere.

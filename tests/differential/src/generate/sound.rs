@@ -190,10 +190,12 @@ fn load(random: &mut Random, scene: &mut Scene) {
     }
 }
 
+/// The source, where there is one, is any shelf: a full one, an empty one, or the place itself.
 fn load_one(random: &mut Random, scene: &mut Scene, place: usize, volume: u16) {
     scene.set_volume(place, volume);
-    if random.percent(60) {
-        let source = random.pick_with_ends(&scene.places).address;
+    let shelves = scene.places_where(|kind, _| kind == Kind::Storage);
+    if random.percent(60) && !shelves.is_empty() {
+        let source = scene.places[random.pick_with_ends(&shelves)].address;
         scene.set_source(place, source);
     }
     if scene.places[place].kind == Kind::ImportExport {

@@ -6,6 +6,7 @@ mod events;
 mod libraries;
 mod modes;
 mod reserving;
+mod shelves;
 mod unsound;
 mod wide;
 
@@ -23,12 +24,15 @@ macro_rules! named {
     ($($family:ident::$name:ident),* $(,)?) => { [$((stringify!($name), $family::$name as Scenario)),*] };
 }
 
-const SCENARIOS: [(&str, Scenario); 26] = named![
+const SCENARIOS: [(&str, Scenario); 29] = named![
     libraries::small_library,
     libraries::plausible_calls,
     libraries::history,
     libraries::moves,
     libraries::most_transports,
+    shelves::moves_of_each_kind,
+    shelves::exchanges_of_each_kind,
+    shelves::sources_of_each_kind,
     blocks::early_steps,
     unsound::each_clause_broken,
     unsound::pairs_of_clauses_broken,

@@ -29,14 +29,14 @@ add-end : tie.Need-add-end Inv-loop μ-loop
 add-end c =
     let turn = c .before .before .before in
     let start = turn .before .before in
-    let run = file-run _ _ _ _ (search needs) _ _ _ (turn .loop .inv) (c .before .before .loop-test .taken) (start .pre .1 .0) (start .pre .1 .1) in
+    let run = file-run _ _ _ _ (search needs) _ _ _ (turn .loop .inv) (c .before .before .loop-test .taken) (start .pre .0) (start .pre .1) in
     omega (arith, run .there)
 
 run-sound-requires : tie.Need-run-sound-requires Inv-loop μ-loop
 run-sound-requires c κs =
     let turn = c .before .before .before .before in
     let start = turn .before .before in
-    (start .pre .0, file-run _ _ _ _ (search needs) _ _ _ (turn .loop .inv) (c .before .before .before .loop-test .taken) (start .pre .1 .0) (start .pre .1 .1))
+    file-run _ _ _ _ (search needs) _ _ _ (turn .loop .inv) (c .before .before .before .loop-test .taken) (start .pre .0) (start .pre .1)
 
 returns : tie.Need-returns Inv-loop μ-loop
 returns c =

@@ -15,7 +15,7 @@ abbrev μ-loop : tie.MeasureT-loop
 μ-loop runs unit top kind first end elements seen₀ last p₀ seen p = end - p
 
 loop-holds : tie.Need-loop-holds Inv-loop μ-loop
-loop-holds c = pass-begins _ _ _ _ _ _ _ _ (c .before .before .pre .1)
+loop-holds c = pass-begins _ _ _ _ _ _ _ _ (c .before .before .pre)
 
 last-of-requires : tie.Need-last-of-requires Inv-loop μ-loop
 last-of-requires c κs = search needs
@@ -23,18 +23,18 @@ last-of-requires c κs = search needs
 fits-requires : tie.Need-fits-requires Inv-loop μ-loop
 fits-requires c κs =
     let start = c .before .before .before .before in
-    (start .pre .0, omega (arith, start .pre .1 .there, c .loop-test .taken))
+    omega (arith, start .pre .there, c .loop-test .taken)
 
 returns : tie.Need-returns Inv-loop μ-loop
 returns c =
     let fit = c .before in
     let turn = fit .before .before in
-    (pass-unfit _ _ _ _ _ _ _ _ (turn .before .before .before .pre .1) _ _ (turn .loop .inv) (fit .before .loop-test .taken) _ (turn .before .last-of .ensures) _ (fit .fits2 .ensures) (c .if1 .taken), never)
+    (pass-unfit _ _ _ _ _ _ _ _ (turn .before .before .before .pre) _ _ (turn .loop .inv) (fit .before .loop-test .taken) _ (turn .before .last-of .ensures) _ (fit .fits2 .ensures) (c .if1 .taken), never)
 
 volume-requires : tie.Need-volume-requires Inv-loop μ-loop
 volume-requires c κs =
     let test = c .before .before in
-    omega (arith, test .before .before .before .before .pre .1 .there, test .loop-test .taken)
+    omega (arith, test .before .before .before .before .pre .there, test .loop-test .taken)
 
 cast-v : tie.Need-cast-v Inv-loop μ-loop
 cast-v c = search needs
@@ -45,7 +45,7 @@ element-copy-out-if3 c =
     let fit = read .before .before in
     let turn = fit .before .before in
     let start = turn .before .before .before in
-    omega (arith, volume-small _ _ _ _ _ _ _ _ (start .pre .1) _ _ (turn .loop .inv) (fit .before .loop-test .taken) _ (turn .before .last-of .ensures) _ (fit .fits2 .ensures) (read .before .if1 .left) _ (read .volume .ensures))
+    omega (arith, volume-small _ _ _ _ _ _ _ _ (start .pre) _ _ (turn .loop .inv) (fit .before .loop-test .taken) _ (turn .before .last-of .ensures) _ (fit .fits2 .ensures) (read .before .if1 .left) _ (read .volume .ensures))
 
 returns-2 : tie.Need-returns-2 Inv-loop μ-loop
 returns-2 c =
@@ -54,7 +54,7 @@ returns-2 c =
     let fit = read .before .before in
     let turn = fit .before .before in
     let start = turn .before .before .before in
-    (pass-twice _ _ _ _ _ _ _ _ (start .pre .1) _ _ (turn .loop .inv) (fit .before .loop-test .taken) _ (turn .before .last-of .ensures) _ (fit .fits2 .ensures) (read .before .if1 .left) _ (read .volume .ensures) (some .if2 .taken) (c .if3 .taken), never)
+    (pass-twice _ _ _ _ _ _ _ _ (start .pre) _ _ (turn .loop .inv) (fit .before .loop-test .taken) _ (turn .before .last-of .ensures) _ (fit .fits2 .ensures) (read .before .if1 .left) _ (read .volume .ensures) (some .if2 .taken) (c .if3 .taken), never)
 
 element-write-seen : tie.Need-element-write-seen Inv-loop μ-loop
 element-write-seen c =
@@ -62,7 +62,7 @@ element-write-seen c =
     let fit = read .before .before in
     let turn = fit .before .before in
     let start = turn .before .before .before in
-    omega (arith, volume-small _ _ _ _ _ _ _ _ (start .pre .1) _ _ (turn .loop .inv) (fit .before .loop-test .taken) _ (turn .before .last-of .ensures) _ (fit .fits2 .ensures) (read .before .if1 .left) _ (read .volume .ensures))
+    omega (arith, volume-small _ _ _ _ _ _ _ _ (start .pre) _ _ (turn .loop .inv) (fit .before .loop-test .taken) _ (turn .before .last-of .ensures) _ (fit .fits2 .ensures) (read .before .if1 .left) _ (read .volume .ensures))
 
 add-p : tie.Need-add-p Inv-loop μ-loop
 add-p c = search needs
@@ -77,12 +77,12 @@ loop-again c =
     let turn = fit .before .before in
     let start = turn .before .before .before in
     ⊎-elim
-    (λ w. rw (w .3) (pass-new _ _ _ _ _ _ _ _ (start .pre .1) _ _ (turn .loop .inv) (fit .before .loop-test .taken) _ (turn .before .last-of .ensures) _ (fit .fits2 .ensures) (read .before .if1 .left) _ (read .volume .ensures) (w .0 .taken) (w .2 .left)))
-    (λ w. rw (w .1) (pass-empty _ _ _ _ _ _ _ _ (start .pre .1) _ _ (turn .loop .inv) (fit .before .loop-test .taken) _ (turn .before .last-of .ensures) _ (fit .fits2 .ensures) (read .before .if1 .left) _ (read .volume .ensures) (w .0 .left)))
+    (λ w. rw (w .3) (pass-new _ _ _ _ _ _ _ _ (start .pre) _ _ (turn .loop .inv) (fit .before .loop-test .taken) _ (turn .before .last-of .ensures) _ (fit .fits2 .ensures) (read .before .if1 .left) _ (read .volume .ensures) (w .0 .taken) (w .2 .left)))
+    (λ w. rw (w .1) (pass-empty _ _ _ _ _ _ _ _ (start .pre) _ _ (turn .loop .inv) (fit .before .loop-test .taken) _ (turn .before .last-of .ensures) _ (fit .fits2 .ensures) (read .before .if1 .left) _ (read .volume .ensures) (w .0 .left)))
     (c .if2 .came)
 
 returns-3 : tie.Need-returns-3 Inv-loop μ-loop
-returns-3 c = let all = pass-all _ _ _ _ _ _ _ _ (c .before .before .before .before .pre .1) _ _ (c .before .loop .inv) (c .loop-test .left) in (all .0, λ e. all .1)
+returns-3 c = let all = pass-all _ _ _ _ _ _ _ _ (c .before .before .before .before .pre) _ _ (c .before .loop .inv) (c .loop-test .left) in (all .0, λ e. all .1)
 
 pub run-sound-spec : {M : Type 1} → statement M
 run-sound-spec =

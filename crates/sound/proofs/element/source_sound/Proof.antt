@@ -1,6 +1,9 @@
 -- `sound::element::source_sound` meets its contract. Assumes nothing.
-use mathlib.Core.Path.{refl}
+use Prim.Native.Nat.{ℕ}
+use mathlib.Core.Path.{refl, ap}
 use borrow.Author.Needs.{needs}
+use lib.Dec.{eqb}
+use Rattle.rules.specs.Roster.{storage}
 use Rattle.rules.specs.Sound.{sourceSound}
 use Rattle.rules.proofs.Ladder.{eq-is, eq-not}
 use Rattle.sound_head.proofs.Tests.{all-differ-stop, all-differ-go, all-last}
@@ -15,14 +18,14 @@ returns-2 : tie.Need-returns-2
 unfolding sourceSound
 returns-2 c = eq-not _ _ _ _ _ (c .before .if1 .left) (all-differ-stop _ _ _ (c .if2 .taken))
 
-is-element-requires : tie.Need-is-element-requires
-is-element-requires c κs = search needs
+kind-of-requires : tie.Need-kind-of-requires
+kind-of-requires c κs = search needs
 
 returns-3 : tie.Need-returns-3
 unfolding sourceSound
 returns-3 c =
     eq-not _ _ _ _ _ (c .before .before .if1 .left)
-    (all-differ-go _ _ _ _ (c .before .if2 .left) (all-last _ _ (c .is-element .ensures)))
+    (all-differ-go _ _ _ _ (c .before .if2 .left) (all-last _ _ (ap (λ (k : ℕ). eqb k storage) (c .kind-of .ensures))))
 
 pub source-sound-spec : {M : Type 1} → statement M
-source-sound-spec = tie.close (tie.spec returns returns-2 is-element-requires returns-3)
+source-sound-spec = tie.close (tie.spec returns returns-2 kind-of-requires returns-3)
