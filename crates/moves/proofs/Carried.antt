@@ -19,8 +19,8 @@ use Rattle.moves.specs.Judged.{shelfAt, meaning, shifted, carried, swapp
 use Rattle.moves.proofs.Meaning.{move-means, exchange-means}
 
 -- the address that was left came from a call
-pub shelf-by : (ss : List Slot) (es : List ℕ) (s a b p : ℕ) → s ≡ shelfAt ss es a p → a ≡ b → s ≡ shelfAt ss es b p
-shelf-by ss es s a b p e f = e ∙ ap (λ (x : ℕ). shelfAt ss es x p) f
+pub shelf-by : (ss : List Slot) (es : List ℕ) (s a b p : ℕ) → a ≡ b → s ≡ shelfAt ss es a p → s ≡ shelfAt ss es b p
+shelf-by ss es s a b p f e = e ∙ ap (λ (x : ℕ). shelfAt ss es x p) f
 
 -- for `search`: what was read before the writes
 pub ruleset shelves = (shelf-by)

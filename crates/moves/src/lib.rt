@@ -266,8 +266,10 @@ fn swap(
     requires { ⌜ second < places (now elements) ⌝ }
     ensures { λ _. ⌜ now (elements .exit) ≡ swapped (laid runs) (now (elements .entry)) (now (block .entry)) from first second brought displaced ⌝ }
 {
-    let displaced_shelf = shelf_of(runs, elements, wire::word_at(block, 6), first);
-    let brought_shelf = shelf_of(runs, elements, wire::word_at(block, 4), from);
+    let source = wire::word_at(block, 4);
+    let nearer = wire::word_at(block, 6);
+    let displaced_shelf = shelf_of(runs, elements, nearer, first);
+    let brought_shelf = shelf_of(runs, elements, source, from);
     tables::element::fill(elements, from, 0, 0, 0);
     shift(elements, first, second, displaced, displaced_shelf);
     tables::element::fill(elements, first, brought, brought_shelf, 0);

@@ -8,12 +8,12 @@ use Rattle.moves.proofs.swap.Tie as tie
 word-at-requires : tie.Need-word-at-requires
 word-at-requires c κs = search needs
 
+word-at-requires-2 : tie.Need-word-at-requires-2
+word-at-requires-2 c κs = search needs
+
 shelf-of-requires : tie.Need-shelf-of-requires
 unfolding places
 shelf-of-requires c κs = search needs
-
-word-at-requires-2 : tie.Need-word-at-requires-2
-word-at-requires-2 c κs = search needs
 
 shelf-of-requires-2 : tie.Need-shelf-of-requires-2
 unfolding places
@@ -36,14 +36,10 @@ same-length c = search needs
 
 returns : tie.Need-returns
 returns c =
-    let third = c .before .before in
-    let second = third .before .before .before .before in
-    let first = second .before .before .before .before in
-    let brought = first .before .before in
-    let displaced = brought .before .before .before in
-    swapped-by _ _ _ _ _ _ _ _ _ _ _ _ _ (third .fill2 .ensures) (second .shift .ensures) (first .fill .ensures)
-    (shelf-by _ _ _ _ _ _ (brought .shelf-of2 .ensures) (brought .before .word-at2 .ensures))
-    (shelf-by _ _ _ _ _ _ (displaced .shelf-of .ensures) (displaced .before .word-at .ensures))
+    let second = c .before .before .before .before .before .before in
+    swapped-by _ _ _ _ _ _ _ _ _ _ _ _ _ (c .before .before .fill2 .ensures) (second .shift .ensures) (search shelves)
+    (shelf-by _ _ _ _ _ _ (second .before .before .before .before .before .before .before .before .before .before .before .word-at .ensures) (search shelves))
+    (shelf-by _ _ _ _ _ _ (second .before .before .before .before .before .before .before .before .before .before .word-at2 .ensures) (second .before .before .before .before .before .before .before .before .shelf-of .ensures))
 
 pub swap-spec : {M : Type 1} → statement M
-swap-spec = tie.close (tie.spec word-at-requires shelf-of-requires word-at-requires-2 shelf-of-requires-2 fill-requires shift-requires fill-requires-2 same-length returns)
+swap-spec = tie.close (tie.spec word-at-requires word-at-requires-2 shelf-of-requires shelf-of-requires-2 fill-requires shift-requires fill-requires-2 same-length returns)
