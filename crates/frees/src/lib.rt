@@ -27,7 +27,8 @@ fn theirs(w: Whose, owner: u8, id: u8) -> bool
     }
 }
 
-fn free_at(elements: &mut [u8], w: Whose, place: usize)
+// The element at a place is freed, if it is theirs.
+pub fn free_at(elements: &mut [u8], w: Whose, place: usize)
     requires { ⌜ elementAt place + elementSize ≤ length (now elements) ⌝ }
     ensures { λ _. ⌜ now (elements .exit) ≡ freedAt (whose w) place (now (elements .entry)) ⌝ }
 {

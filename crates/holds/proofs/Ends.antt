@@ -1,17 +1,20 @@
 -- What a command ends with where it has more to change than its host's sense, and the verdicts that say so. Assumes nothing.
-use Prim.Native.Nat.{ℕ, zero, suc, _%_}
+use Prim.Native.Nat.{ℕ, zero, suc, _*_, _%_, _≤_}
 use mathlib.Core.Path.{_≡_, refl, ap, _∙_}
 use mathlib.Core.List.{List, [], _∷_}
+use lib.ListN.{length}
 use Rattle.rules.specs.Choice.{each}
 use Rattle.rules.specs.Bytes.{byte}
-use Rattle.rules.specs.Tables.{Tables, lent, unit, mask, Change, HoldUnit, Prevent, Free, Under, Every, inHead, inElements, change, changes, Rest}
+use Rattle.rules.specs.Tables.{Tables, lent, elementSize, mostElements, places, unit, mask, Change, HoldUnit, Prevent, Free, Under, Every, inHead, inElements, change, changes, Rest}
 use Rattle.rules.specs.Roster.{Slot}
 use Rattle.rules.specs.Order.{Verdict, Outcome, outcome, good}
 use Rattle.rules.specs.Holds.{descriptors, holdsFrom, granted, ofUnit, releaseUnit, release, newMask, prevent}
 use Rattle.rules.proofs.Ladder.{eq-is, eq-not, eq-yes, eq-no}
 use Rattle.order.specs.declared.Reply.{Reply}
 use Rattle.order.specs.Ending.{ended}
-use Rattle.holds.specs.Judged.{heldBy, granting}
+use Rattle.lists.specs.Named.{Marks}
+use Rattle.holds.specs.Judged.{settled}
+use Rattle.holds.proofs.Passes.{heldBy, settled-is}
 
 -- an outcome, after which the changes cs were made
 abbrev followed : List Change → Outcome → Outcome
@@ -41,14 +44,16 @@ both head head′ elements elements′ rest e d = rw (e, d)
 -- ---- the elements that the grant's changes leave
 
 module _ (ss : List Slot) (h i : ℕ) (list head : List ℕ) (rest : Rest) where
-  holds-are : (n k : ℕ) (xs : List ℕ) → lent head (each (heldBy ss h i list) n k xs) rest ≡ changes (holdsFrom ss h i list n k) (lent head xs rest)
-  unfolding each heldBy changes change inHead inElements holdsFrom
+  holds-are : (n k : ℕ) (xs : List ℕ) → lent head (each (heldBy h i ss list) n k xs) rest ≡ changes (holdsFrom ss h i list n k) (lent head xs rest)
+  unfolding each changes change inHead inElements holdsFrom
   holds-are zero k xs = refl
-  holds-are (suc n) k xs = holds-are n (suc k) (heldBy ss h i list k xs)
+  holds-are (suc n) k xs = holds-are n (suc k) (heldBy h i ss list k xs)
 
-  pub grant-ends : (xs ys : List ℕ) → ys ≡ granting ss h i list xs → lent head ys rest ≡ changes (granted ss h i list) (lent head xs rest)
-  unfolding granting granted changes change inHead inElements
-  grant-ends xs ys e = ap (λ (zs : List ℕ). lent head zs rest) e ∙ holds-are (descriptors list) 0 _
+  pub grant-ends : (marks xs ys : List ℕ) → Marks ss list (descriptors list) marks → length xs ≡ elementSize * places xs → places xs ≤ mostElements
+      → ys ≡ settled marks h i xs → lent head ys rest ≡ changes (granted ss h i list) (lent head xs rest)
+  unfolding granted changes change inHead inElements
+  grant-ends marks xs ys told long few e =
+      ap (λ (zs : List ℕ). lent head zs rest) (e ∙ settled-is h i ss list marks (descriptors list) told xs long few) ∙ holds-are (descriptors list) 0 _
 
 -- ---- the verdicts of RELEASE and PREVENT ALLOW, from what the code reads
 

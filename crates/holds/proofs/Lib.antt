@@ -1,3 +1,4 @@
-pub mod Loops
+pub mod Passes
+pub mod Turns
 pub mod Meaning
 pub mod Ends

@@ -1,66 +1,75 @@
--- RESERVE's answer from what the code reads, and what it means: what the rules say. Assumes nothing.
-use Prim.Native.Nat.{ℕ}
-use mathlib.Core.Path.{_≡_, refl, sym, _∙_}
-use mathlib.Core.List.{List}
-use Rattle.rules.proofs.Rungs.{ends-as}
+-- RESERVE's answer, and what it means: what the rules say. Assumes nothing.
+use Prim.Native.Nat.{ℕ, zero, suc, _%_}
+use mathlib.Core.Path.{_≡_, refl}
+use mathlib.Core.List.{List, [], _∷_}
+use mathlib.Core.Bool.{Bool, true, false}
+use Rattle.rules.specs.Choice.{when, anyOf, differ}
 use Rattle.rules.specs.Bytes.{byte}
-use Rattle.rules.specs.Tables.{Tables, lent, Rest}
+use Rattle.rules.specs.Tables.{Tables, HoldUnit}
 use Rattle.rules.specs.Roster.{Slot, roster}
-use Rattle.rules.specs.Order.{Outcome, outcome}
-use Rattle.rules.specs.Holds.{reserveUnit, reserveElements, reserve}
-use Rattle.rules.proofs.Ladder.{on, when-of}
+use Rattle.rules.specs.Order.{ListField, WrongAddress, refused, conflict, good}
+use Rattle.rules.specs.Holds.{reservedBytes, unknown, tooMany, namedBefore, wrongAddress, faultsFrom, ofUnit, reserveUnit, reserveElements, reserve}
+use Rattle.rules.proofs.Ladder.{yes, no, eq-is, eq-not, when-of}
 use Rattle.tables.specs.declared.Range.{Range}
 use Rattle.tables.specs.Ranges.{laid}
-use Rattle.tables.proofs.Roster.{runs-laid, runs-typed}
-use Rattle.order.specs.declared.Cause.{Cause}
+use Rattle.tables.proofs.Roster.{runs-laid}
+use Rattle.order.specs.declared.Cause.the-variants.{ListField as Fields}
 use Rattle.order.specs.Ending.{reason}
-use Rattle.lists.specs.declared.Fault.{Fault}
-use Rattle.lists.specs.declared.Fault.the-variants.{Because, None}
-use Rattle.lists.specs.Named.{refusing}
-use Rattle.lists.proofs.Faults.{refusing-is}
+use Rattle.lists.specs.declared.Named.the-variants.{Wrong, Elements as Names}
+use Rattle.lists.specs.Named.{spanAt, wrong, lookedUpThen, judgedAt}
 use Rattle.holds.specs.declared.Ruling.{Ruling}
-use Rattle.holds.specs.declared.Ruling.the-variants.{Refused}
-use Rattle.holds.specs.Judged.{anyOther, unitBy, onFault, elementsBy, reserveBy, meaning, Grantable, LaidOut, Reservable}
+use Rattle.holds.specs.Judged.{anyOther, onNamed, judgedFrom, elementsBy, meaning, LaidOut, Reservable}
 
--- ---- a way out by what the list's first fault is
+-- ---- RESERVE of elements
 
-pub fault-cause : (f g : Fault) (c : Cause) (x z : Ruling) → f ≡ g → f ≡ Because c → z ≡ Refused c → z ≡ onFault g x
-unfolding onFault
-fault-cause f g c x z e t w = rw (sym e ∙ t) w
+module _ (ss : List Slot) (h i : ℕ) (list : List ℕ) (rest : Ruling) where
+  judged-means : (n k : ℕ) → meaning ss h i list (judgedFrom ss list n k rest) ≡ faultsFrom ss h list n k (meaning ss h i list rest)
+  unfolding judgedFrom judgedAt lookedUpThen faultsFrom wrongAddress onNamed meaning reason anyOf when
+  judged-means zero k = refl
+  judged-means (suc n) k = go (differ (reservedBytes list k) 0) (unknown ss list k) (tooMany ss list k) (namedBefore ss list k) (judged-means n (suc k))
+    where
+      go : (a b c d : Bool) → meaning ss h i list (judgedFrom ss list n (suc k) rest) ≡ faultsFrom ss h list n (suc k) (meaning ss h i list rest)
+          → meaning ss h i list
+          (onNamed (when a (Wrong Fields) (when b wrong (when c wrong (when d wrong (Names (spanAt ss list k))))))
+          (judgedFrom ss list n (suc k) rest))
+          ≡ when a (refused h ListField) (when (anyOf (b ∷ c ∷ d ∷ [])) (refused h WrongAddress) (faultsFrom ss h list n (suc k) (meaning ss h i list rest)))
+      go true b c d ih = refl
+      go false true c d ih = refl
+      go false false true d ih = refl
+      go false false false true ih = refl
+      go false false false false ih = ih
 
-pub fault-none : (f g : Fault) (x z : Ruling) → f ≡ g → f ≡ None → z ≡ x → z ≡ onFault g x
-unfolding onFault
-fault-none f g x z e t w = rw (sym e ∙ t) w
+elements-mean : (t : Tables) (h i : ℕ) (list : List ℕ)
+    → meaning (roster (t .head)) h i list (elementsBy (roster (t .head)) (t .elements) h i list) ≡ reserveElements t h i list
+unfolding elementsBy meaning reserveElements reason
+elements-mean t h i list = simp (when-of (meaning (roster (t .head)) h i list), judged-means)
 
--- the unit's answer grants no elements
-pub unit-grantable : (ss : List Slot) (elements : List ℕ) (h : ℕ) (list : List ℕ) → Grantable ss list (unitBy elements h)
-unfolding unitBy
-unit-grantable ss elements h list = on (Grantable ss list) _ (λ d. tt) (λ d. tt)
+-- ---- RESERVE of the unit, after the search r
 
--- ---- the meaning
+module _ (t : Tables) (h : ℕ) (r : Bool) (is : r ≡ anyOther (t .elements) h) where
+  pub unit-taken : r ≡ true → conflict h ≡ reserveUnit t h
+  unfolding reserveUnit anyOther
+  unit-taken e = yes r _ _ _ _ is e refl
 
-module _ (ss : List Slot) (h i : ℕ) (list : List ℕ) where
-  meaning-fault : (f : Fault) (x : Ruling) → meaning ss h i list (onFault f x) ≡ refusing h (meaning ss h i list x) f
-  unfolding onFault refusing meaning
-  meaning-fault (Because c) x = refl
-  meaning-fault None x = refl
-
-reserve-means : (t : Tables) (h : ℕ) (block list : List ℕ)
-    → meaning (roster (t .head)) h (byte block 2) list (reserveBy (roster (t .head)) (t .elements) h block list) ≡ reserve t h block list
-unfolding reserveBy unitBy elementsBy anyOther meaning reserve reserveUnit reserveElements reason
-reserve-means t h block list = simp (when-of (meaning (roster (t .head)) h (byte block 2) list), meaning-fault, refusing-is)
+  pub unit-free : r ≡ false → good h (HoldUnit h ∷ []) ≡ reserveUnit t h
+  unfolding reserveUnit anyOther
+  unit-free e = no r _ _ _ _ is e refl
 
 -- ---- from what RESERVE asks for
 
 module _ (runs : List Range) (head elements : List ℕ) (h : ℕ) (block : List ℕ) (asked : Reservable runs head elements h block) where
-  same : laid runs ≡ roster head
-  same = runs-laid runs head (asked .runs-are)
+  pub same-roster : laid runs ≡ roster head
+  same-roster = runs-laid runs head (asked .runs-are)
 
   pub lays-out : LaidOut runs elements
-  lays-out = record { typed = runs-typed runs head (asked .runs-are); elements-long = rw same (asked .elements-long) }
+  lays-out = record { elements-long = rw same-roster (asked .elements-long); few = rw same-roster (asked .few) }
 
-  -- of the answer x, which was carried out
-  pub decided : (rest : Rest) (buffer list : List ℕ) (x : Ruling) → x ≡ reserveBy (laid runs) elements h block list
-      → (o : Outcome) → o ≡ outcome (lent head elements rest) buffer (meaning (laid runs) h (byte block 2) list x)
-      → o ≡ outcome (lent head elements rest) buffer (reserve (lent head elements rest) h block list)
-  decided rest buffer list x is o e = ends-as _ buffer e (rw (is, same) (reserve-means (lent head elements rest) h block list))
+module _ (t : Tables) (h : ℕ) (block list : List ℕ) where
+  pub reserves-unit : byte block 1 % 2 ≡ 0 → reserveUnit t h ≡ reserve t h block list
+  unfolding reserve ofUnit
+  reserves-unit e = eq-is (byte block 1 % 2) 0 _ _ _ e refl
+
+  pub reserves-elements : (byte block 1 % 2 ≡ 0 → ⊥) → (ss : List Slot) → ss ≡ roster (t .head)
+      → meaning ss h (byte block 2) list (elementsBy ss (t .elements) h (byte block 2) list) ≡ reserve t h block list
+  unfolding reserve ofUnit
+  reserves-elements e ss is = eq-not (byte block 1 % 2) 0 _ _ _ e (rw is (elements-mean t h (byte block 2) list))

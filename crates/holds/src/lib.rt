@@ -1,27 +1,27 @@
 // RESERVE, RELEASE and PREVENT ALLOW from step 5 on: judged by reading only, then carried out.
 use frees::Whose;
-use lists::Fault;
-use lists::Span;
+use lists::Named;
 use order::Cause;
 use order::Reply;
 use tables::Range;
 ghost use mathlib.Core.Path.{_≡_};
 ghost use mathlib.Core.List.{List};
-ghost use Prim.Native.Nat.{ℕ, _+_, _-_, _*_, _≤_};
+ghost use Prim.Native.Nat.{ℕ, _+_, _<_, _≤_};
 ghost use lib.ListN.{length};
-ghost use Rattle.rules.specs.Tables.{headSize, elementSize, elementAt, hosts, lent, held, Rest};
+ghost use Rattle.rules.specs.Choice.{anyFrom};
+ghost use Rattle.rules.specs.Tables.{headSize, elementSize, elementAt, mostElements, places, hosts, lent, Rest};
+ghost use Rattle.rules.specs.Roster.{Slot};
 ghost use Rattle.rules.specs.Order.{outcome, good};
-ghost use Rattle.rules.specs.Holds.{taken, conflicts, reserve, releaseUnit, release, newMask, prevent};
+ghost use Rattle.rules.specs.Holds.{taken, reserveUnit, reserve, releaseUnit, release, newMask, prevent};
 ghost use Rattle.order.specs.Ending.{ended};
 ghost use Rattle.tables.specs.Ranges.{laid};
-ghost use Rattle.lists.specs.Named.{Nameable};
-ghost use Rattle.holds.specs.Judged.{anyOther, granting, unitBy, elementsBy, reserveBy, meaning, Grantable, LaidOut, Carriable, Reservable};
+ghost use Rattle.lists.specs.Named.{Marks};
+ghost use Rattle.holds.specs.Judged.{anyOther, takenIn, elementsBy, meaning, settledAt, settled, Grantable, LaidOut, Bounded, Carriable, Reservable};
 
-// What a RESERVE comes to: refused for a cause, a conflict, the unit or the elements named to be held.
+// What a RESERVE of elements comes to: refused for a cause, a conflict, or that those named are held.
 pub enum Ruling {
     Refused(Cause),
     Conflict,
-    Unit,
     Elements,
 }
 
@@ -58,19 +58,22 @@ fn taken_at(elements: &[u8], host: u8, id: u8, place: usize) -> bool
 }
 
 // Outer loop over descriptors, inner over the elements named: the label leaves both at the first that is taken.
-fn conflicts(runs: [Range; 4], elements: &[u8], host: u8, id: u8, list: &[u8]) -> bool
-    requires { ⌜ LaidOut runs (now elements) ⌝ }
-    requires { ⌜ Nameable (laid runs) (now list) ⌝ }
-    ensures { λ r. ⌜ r ≡ conflicts (laid runs) (now (elements .entry)) host id (now (list .entry)) ⌝ }
+fn conflicts(
+    elements: &[u8],
+    host: u8,
+    id: u8,
+    n: usize,
+    firsts: &[usize; layout::MOST_DESCRIPTORS],
+    ends: &[usize; layout::MOST_DESCRIPTORS],
+) -> bool
+    requires { ⌜ Bounded (now elements) n (now ends) ⌝ }
+    ensures { λ r. ⌜ r ≡ anyFrom (takenIn (now (elements .entry)) host id (now (firsts .entry)) (now (ends .entry))) n 0 ⌝ }
 {
-    let stop = lists::stop(list);
     let mut bad = false;
-    let mut at: usize = 0;
-    'judged: while at < stop {
-        let d = reader::read_at(list, at);
-        let s = lists::span_of(runs, d);
-        let end = s.end;
-        let mut p = s.first;
+    let mut k: usize = 0;
+    'judged: while k < n {
+        let end = ends[k];
+        let mut p = firsts[k];
         while p < end {
             if taken_at(elements, host, id, p) {
                 bad = true;
@@ -78,112 +81,131 @@ fn conflicts(runs: [Range; 4], elements: &[u8], host: u8, id: u8, list: &[u8]) -
             }
             p += 1;
         }
-        at = d.after;
+        k += 1;
     }
     bad
 }
 
-// ---- RESERVE, judged
+// ---- RESERVE of elements
 
-// "refused 18h if another host holds any element, else the host holds the unit"
-fn judge_unit(elements: &[u8], host: u8) -> Ruling
-    ensures { λ r. ⌜ r ≡ unitBy (now (elements .entry)) host ⌝ }
-{
-    if any_other(elements, host) {
-        return Ruling::Conflict;
-    }
-    Ruling::Unit
-}
-
-// "a fault in any descriptor comes before 18h"
-fn judge_elements(runs: [Range; 4], elements: &[u8], host: u8, id: u8, list: &[u8]) -> Ruling
+// "a fault in any descriptor comes before 18h": one pass over the descriptors, which marks the places that they name and keeps where
+// those of each begin and end.
+fn judge_elements(
+    runs: [Range; 4],
+    elements: &[u8],
+    host: u8,
+    id: u8,
+    list: &[u8],
+    marks: &mut [u8; layout::MOST_ELEMENTS],
+) -> Ruling
     requires { ⌜ LaidOut runs (now elements) ⌝ }
+    requires { ⌜ Marks (laid runs) (now list) 0 (now marks) ⌝ }
     ensures { λ r. ⌜ r ≡ elementsBy (laid runs) (now (elements .entry)) host id (now (list .entry)) ⌝ }
-    ensures { λ r. ⌜ Grantable (laid runs) (now (list .entry)) r ⌝ }
+    ensures { λ r. ⌜ Grantable (laid runs) (now (list .entry)) (now (marks .exit)) r ⌝ }
 {
     if lists::wrong_length(list) {
         return Ruling::Refused(Cause::ListLength);
     }
-    if let Fault::Because(cause) = lists::first_fault(runs, list) {
-        return Ruling::Refused(cause);
+    let n = lists::count(list);
+    let mut firsts = [0usize; layout::MOST_DESCRIPTORS];
+    let mut ends = [0usize; layout::MOST_DESCRIPTORS];
+    let mut k: usize = 0;
+    while k < n {
+        match lists::judge(runs, list, k, marks) {
+            Named::Wrong(cause) => return Ruling::Refused(cause),
+            Named::Elements(s) => {
+                firsts[k] = s.first;
+                ends[k] = s.end;
+            }
+        }
+        k += 1;
     }
-    if conflicts(runs, elements, host, id, list) {
+    if conflicts(elements, host, id, n, &firsts, &ends) {
         return Ruling::Conflict;
     }
     Ruling::Elements
 }
 
-fn judge_reserve(runs: [Range; 4], elements: &[u8], host: u8, block: &[u8], list: &[u8]) -> Ruling
-    requires { ⌜ LaidOut runs (now elements) ⌝ }
-    requires { ⌜ length (now block) ≡ 6 ⌝ }
-    ensures { λ r. ⌜ r ≡ reserveBy (laid runs) (now (elements .entry)) host (now (block .entry)) (now (list .entry)) ⌝ }
-    ensures { λ r. ⌜ Grantable (laid runs) (now (list .entry)) r ⌝ }
+// An element is held if it is named, else freed if it is "this host's .. of that id".
+fn settle(elements: &mut [u8], host: u8, id: u8, place: usize, marks: &[u8; layout::MOST_ELEMENTS])
+    requires { ⌜ elementAt place + elementSize ≤ length (now elements) ⌝ }
+    requires { ⌜ place < mostElements ⌝ }
+    ensures { λ _. ⌜ now (elements .exit) ≡ settledAt (now (marks .entry)) host id place (now (elements .entry)) ⌝ }
 {
-    if block[1] % 2 == 0 {
-        return judge_unit(elements, host);
+    if marks[place] != 0 {
+        tables::element::hold(elements, place, host, id);
+        return;
     }
-    judge_elements(runs, elements, host, block[2], list)
+    frees::free_at(elements, Whose::Under(host, id), place);
 }
 
-// ---- the element table changed
-
-fn hold_span(elements: &mut [u8], s: Span, host: u8, id: u8)
-    requires { ⌜ s .first ≤ s .end ⌝ }
-    requires { ⌜ elementSize * s .end ≤ length (now elements) ⌝ }
-    ensures { λ _. ⌜ now (elements .exit) ≡ held (now (elements .entry)) (s .first) (s .end - s .first) host id ⌝ }
+// "this host's old elements of that id are freed, then those named are held": both in one pass over the table.
+fn grant(elements: &mut [u8], host: u8, id: u8, marks: &[u8; layout::MOST_ELEMENTS])
+    requires { ⌜ places (now elements) ≤ mostElements ⌝ }
+    ensures { λ _. ⌜ now (elements .exit) ≡ settled (now (marks .entry)) host id (now (elements .entry)) ⌝ }
 {
-    let end = s.end;
-    let mut p = s.first;
-    while p < end {
-        tables::element::hold(elements, p, host, id);
+    let n = tables::element::places(elements);
+    let mut p: usize = 0;
+    while p < n {
+        settle(elements, host, id, p, marks);
         p += 1;
     }
 }
 
-// "this host's old elements of that id are freed, then those named are held"
-fn grant(runs: [Range; 4], elements: &mut [u8], host: u8, id: u8, list: &[u8])
-    requires { ⌜ LaidOut runs (now elements) ⌝ }
-    requires { ⌜ Nameable (laid runs) (now list) ⌝ }
-    ensures { λ _. ⌜ now (elements .exit) ≡ granting (laid runs) host id (now (list .entry)) (now (elements .entry)) ⌝ }
+// What was judged is carried out, for the list whose elements are marked.
+fn carry_out(
+    head: &mut [u8],
+    elements: &mut [u8],
+    host: u8,
+    id: u8,
+    marks: &[u8; layout::MOST_ELEMENTS],
+    ruling: Ruling,
+) -> Reply
+    requires { ⌜ Carriable (now head) (now elements) host ⌝ }
+    ensures { λ r. ⌜ ((ss : List Slot) (list : List ℕ) (rest : Rest) (buffer : List ℕ) → Grantable ss list (now (marks .entry)) ruling → ended r (lent (now (head .exit)) (now (elements .exit)) rest) buffer ≡ outcome (lent (now (head .entry)) (now (elements .entry)) rest) buffer (meaning ss host id list ruling)) ⌝ }
 {
-    frees::free(elements, Whose::Under(host, id));
-    let stop = lists::stop(list);
-    let mut at: usize = 0;
-    while at < stop {
-        let d = reader::read_at(list, at);
-        hold_span(elements, lists::span_of(runs, d), host, id);
-        at = d.after;
+    match ruling {
+        Ruling::Refused(cause) => order::refuse(head, host, cause),
+        Ruling::Conflict => order::conflict(head, host),
+        Ruling::Elements => {
+            grant(elements, host, id, marks);
+            order::good(head, host)
+        }
     }
 }
 
-// ---- the commands
-
-// What was judged is carried out.
-fn carry_out(
+fn reserve_elements(
     runs: [Range; 4],
     head: &mut [u8],
     elements: &mut [u8],
     host: u8,
     id: u8,
     list: &[u8],
-    ruling: Ruling,
 ) -> Reply
-    requires { ⌜ Carriable runs (now head) (now elements) host (now list) ruling ⌝ }
-    ensures { λ r. ⌜ ((rest : Rest) (buffer : List ℕ) → ended r (lent (now (head .exit)) (now (elements .exit)) rest) buffer ≡ outcome (lent (now (head .entry)) (now (elements .entry)) rest) buffer (meaning (laid runs) host id (now (list .entry)) ruling)) ⌝ }
+    requires { ⌜ headSize ≤ length (now head) ⌝ }
+    requires { ⌜ host ≤ hosts ⌝ }
+    requires { ⌜ LaidOut runs (now elements) ⌝ }
+    ensures { λ r. ⌜ ((rest : Rest) (buffer : List ℕ) → ended r (lent (now (head .exit)) (now (elements .exit)) rest) buffer ≡ outcome (lent (now (head .entry)) (now (elements .entry)) rest) buffer (meaning (laid runs) host id (now (list .entry)) (elementsBy (laid runs) (now (elements .entry)) host id (now (list .entry))))) ⌝ }
 {
-    match ruling {
-        Ruling::Refused(cause) => order::refuse(head, host, cause),
-        Ruling::Conflict => order::conflict(head, host),
-        Ruling::Unit => {
-            let reply = order::good(head, host);
-            tables::head::hold_unit(head, host);
-            reply
-        }
-        Ruling::Elements => {
-            grant(runs, elements, host, id, list);
-            order::good(head, host)
-        }
+    let mut marks = [0u8; layout::MOST_ELEMENTS];
+    let ruling = judge_elements(runs, elements, host, id, list, &mut marks);
+    carry_out(head, elements, host, id, &marks, ruling)
+}
+
+// ---- the commands
+
+// "refused 18h if another host holds any element, else the host holds the unit"
+fn reserve_unit(head: &mut [u8], elements: &[u8], host: u8) -> Reply
+    requires { ⌜ headSize ≤ length (now head) ⌝ }
+    requires { ⌜ host ≤ hosts ⌝ }
+    ensures { λ r. ⌜ ((rest : Rest) (buffer : List ℕ) → ended r (lent (now (head .exit)) (now (elements .entry)) rest) buffer ≡ outcome (lent (now (head .entry)) (now (elements .entry)) rest) buffer (reserveUnit (lent (now (head .entry)) (now (elements .entry)) rest) host)) ⌝ }
+{
+    if any_other(elements, host) {
+        return order::conflict(head, host);
     }
+    let reply = order::good(head, host);
+    tables::head::hold_unit(head, host);
+    reply
 }
 
 pub fn reserve(
@@ -197,8 +219,10 @@ pub fn reserve(
     requires { ⌜ Reservable runs (now head) (now elements) host (now block) ⌝ }
     ensures { λ r. ⌜ ((rest : Rest) (buffer : List ℕ) → ended r (lent (now (head .exit)) (now (elements .exit)) rest) buffer ≡ outcome (lent (now (head .entry)) (now (elements .entry)) rest) buffer (reserve (lent (now (head .entry)) (now (elements .entry)) rest) host (now (block .entry)) (now (list .entry)))) ⌝ }
 {
-    let ruling = judge_reserve(runs, elements, host, block, list);
-    carry_out(runs, head, elements, host, block[2], list, ruling)
+    if block[1] % 2 == 0 {
+        return reserve_unit(head, elements, host);
+    }
+    reserve_elements(runs, head, elements, host, block[2], list)
 }
 
 // "frees the unit, if held by this host, and all its elements"

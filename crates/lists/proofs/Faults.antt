@@ -1,33 +1,34 @@
--- What a descriptor names and its fault, from what the code reads; the first fault of a list; and what it means. Assumes nothing.
-use Prim.Native.Nat.{ℕ, zero, suc, _+_, _-_, _*_, _/_, _%_, _<_, _≤_}
+-- What a descriptor names or its fault, from what the code reads, and what the answer tells. Assumes nothing.
+use Prim.Native.Nat.{ℕ, _+_, _-_, _*_, _<_, _≤_}
 use native.Mathlib.Omega.{arith}
 use mathlib.Core.Path.{_≡_, refl, sym, ap, _∙_}
+use mathlib.Core.Logic.{_≢_}
 use mathlib.Core.Bool.{Bool, true, false}
-use mathlib.Core.List.{List, [], _∷_}
+use mathlib.Core.List.{List}
 use lib.ListN.{length}
 use lib.Dec.{eqb, ltb}
-use borrow.Author.Tests.{eq-eqb, ltb-false}
-use Rattle.rules.specs.Choice.{when, anyOf, differ}
-use Rattle.rules.specs.Roster.{Slot, placeOf, kindOf}
-use Rattle.rules.specs.Order.{Verdict, ListField, WrongAddress, refused}
+use borrow.Author.Tests.{eq-eqb, eqb-false, ltb-false}
+use Rattle.rules.specs.Choice.{when, differ, anyFrom, each}
+use Rattle.rules.specs.Roster.{Slot, kindOf}
 use Rattle.rules.specs.Tables.{descriptorSize}
-use Rattle.rules.specs.Holds.{descriptors, reservedBytes, number, address, first, many, unknown, tooMany, meet, namedBefore, wrongAddress, faultsFrom}
-use Rattle.rules.proofs.Ladder.{yes, no, eq-is, eq-not, lt-is, lt-not, differ-is, differ-not, differ-false, when-true, either}
+use Rattle.rules.specs.Holds.{reservedBytes, number, address, first, many, unknown, tooMany, namedBefore}
+use Rattle.rules.proofs.Places.{place-in}
+use Rattle.rules.proofs.Ladder.{on, yes, no, eq-is, eq-not, lt-is, lt-not, differ-is, differ-not, differ-false, when-true}
 use Rattle.tables.specs.declared.Found.{Found}
 use Rattle.tables.specs.declared.Found.the-variants.{At, Nothing}
 use Rattle.tables.specs.declared.Types.the-variants.{Any}
 use Rattle.tables.specs.LookUp.{admits, found}
 use Rattle.tables.proofs.LookUp.{at-place, at-some, nothing-admits}
 use Rattle.order.specs.declared.Cause.{Cause}
-use Rattle.order.specs.declared.Cause.the-variants as declared
-use Rattle.order.specs.Ending.{reason}
+use Rattle.order.specs.declared.Cause.the-variants.{ListField}
 use Rattle.reader.specs.declared.Step.{Step}
 use Rattle.reader.specs.Read.{stepAt}
-use Rattle.reader.proofs.Places.{the-kth, next-place}
+use Rattle.reader.proofs.Places.{the-kth}
 use Rattle.lists.specs.declared.Span.{Span}
-use Rattle.lists.specs.declared.Fault.{Fault}
-use Rattle.lists.specs.declared.Fault.the-variants.{Because, None}
-use Rattle.lists.specs.Named.{spanOf, spanAt, meets, meetsBefore, wrong, faultBy, faultOf, faultAt, orElse, faultFrom, faultIn, refusing, Nameable}
+use Rattle.lists.specs.declared.Named.{Named}
+use Rattle.lists.specs.declared.Named.the-variants.{Wrong, Elements}
+use Rattle.lists.specs.Named.{spanAt, wrong, lookedUpThen, lookedUp, judgedAt, marked, markAt, Marks, Judging}
+use Rattle.lists.proofs.Marks.{marks-more, before-is}
 
 -- ---- the place behind the last element named
 
@@ -37,150 +38,148 @@ end-all total p n h e = rw (when-true (eqb n 0) (total - p) n (eq-eqb n 0 e)) (o
 pub end-some : (total p n : ℕ) → (n ≡ 0 → ⊥) → p + n ≡ p + when (eqb n 0) (total - p) n
 end-some total p n e = ap (λ (m : ℕ). p + m) (eq-not n 0 (total - p) n n e refl)
 
--- ---- the descriptor d: what it names, and its fault at a place of the list
+-- ---- the k-th descriptor was read as d, and its address looked up
 
-pub span-is : (ss : List Slot) (d : Step) (total p e : ℕ) → total ≡ length ss → e ≡ p + when (eqb (d .number) 0) (total - p) (d .number)
-    → p ≡ placeOf ss (d .address) → record { first = p; end = e } ≡ spanOf ss d
-unfolding spanOf
-span-is ss d total p e all ends here = rw (ends, all, here)
+module _ (ss : List Slot) (list : List ℕ) (k : ℕ) (d : Step) (read : d ≡ stepAt list (descriptorSize * k)) where
+  reserved-is : d .reserved ≡ reservedBytes list k
+  reserved-is = ap (λ (x : Step). x .reserved) (read ∙ the-kth list k)
 
-module _ (ss : List Slot) (list : List ℕ) (at : ℕ) (d : Step) where
-  pub fault-reserved : (d .reserved ≡ 0 → ⊥) → Because declared.ListField ≡ faultOf ss list at d
-  unfolding faultOf
-  fault-reserved t = differ-is _ _ _ _ _ t refl
+  number-is : d .number ≡ number list k
+  number-is = ap (λ (x : Step). x .number) (read ∙ the-kth list k)
+
+  address-is : d .address ≡ address list k
+  address-is = ap (λ (x : Step). x .address) (read ∙ the-kth list k)
+
+  pub look-reserved : (d .reserved ≡ 0 → ⊥) → Wrong ListField ≡ lookedUp ss list k
+  unfolding lookedUpThen
+  look-reserved t = differ-is _ _ _ _ _ (λ e. t (reserved-is ∙ e)) refl
 
   module _ (t : d .reserved ≡ 0) (f : Found) (look : f ≡ found Any ss (d .address)) where
-    clean : (x : Fault)
-        → x ≡ when (eqb (kindOf ss (d .address)) 0) wrong (when (ltb (length ss) (spanOf ss d .end)) wrong (when (meetsBefore ss list at (spanOf ss d)) wrong None))
-        → x ≡ faultOf ss list at d
-    unfolding faultOf
-    clean x w = differ-not _ _ _ _ _ t w
+    looked : f ≡ found Any ss (address list k)
+    looked = look ∙ ap (found Any ss) address-is
 
-    pub fault-unknown : f ≡ Nothing → wrong ≡ faultOf ss list at d
-    unfolding admits
-    fault-unknown e = clean _ (eq-is _ _ _ _ _ (differ-false _ _ (nothing-admits Any ss (d .address) f look e)) refl)
+    clean : (x : Named) → x ≡ when (unknown ss list k) wrong (when (tooMany ss list k) wrong (Elements (spanAt ss list k))) → x ≡ lookedUp ss list k
+    unfolding lookedUpThen
+    clean x w = differ-not _ _ _ _ _ (sym reserved-is ∙ t) w
+
+    pub look-unknown : f ≡ Nothing → wrong ≡ lookedUp ss list k
+    unfolding admits unknown
+    look-unknown e = clean _ (eq-is _ _ _ _ _ (differ-false _ _ (nothing-admits Any ss (address list k) f looked e)) refl)
 
     module _ (p total e : ℕ) (there : f ≡ At p) (all : total ≡ length ss) (ends : e ≡ p + when (eqb (d .number) 0) (total - p) (d .number)) where
-      spanned : record { first = p; end = e } ≡ spanOf ss d
-      spanned = span-is ss d total p e all ends (at-place Any ss (d .address) f look p there)
+      first-is : p ≡ first ss list k
+      unfolding first
+      first-is = at-place Any ss (address list k) f looked p there
 
-      known : (x : Fault) → x ≡ when (ltb (length ss) e) wrong (when (meetsBefore ss list at (record { first = p; end = e })) wrong None) → x ≡ faultOf ss list at d
-      known x w = clean x (rw (sym spanned) (eq-not _ _ _ _ _ (at-some Any ss (d .address) f look p there) w))
+      end-is : e ≡ first ss list k + many ss list k
+      unfolding many
+      end-is = ends ∙ rw (first-is, all, number-is)
 
-      pub fault-many : total < e → wrong ≡ faultOf ss list at d
-      fault-many h = known _ (lt-is (length ss) e _ _ _ (omega arith) refl)
+      known : (x : Named) → x ≡ when (ltb (length ss) (first ss list k + many ss list k)) wrong (Elements (spanAt ss list k)) → x ≡ lookedUp ss list k
+      unfolding unknown tooMany
+      known x w = clean x (eq-not _ _ _ _ _ (at-some Any ss (address list k) f looked p there) w)
 
-      module _ (h : e ≤ total) (r : Bool) (before : r ≡ meetsBefore ss list at (record { first = p; end = e })) where
-        within : (x : Fault) → x ≡ when (meetsBefore ss list at (record { first = p; end = e })) wrong None → x ≡ faultOf ss list at d
-        within x w = known x (lt-not (length ss) e _ _ _ (omega arith) w)
+      pub look-many : total < e → wrong ≡ lookedUp ss list k
+      look-many h =
+          let more : length ss < first ss list k + many ss list k = omega (arith, end-is) in
+          known _ (lt-is _ _ _ _ _ more refl)
 
-        pub fault-named : r ≡ true → wrong ≡ faultOf ss list at d
-        fault-named b = within _ (yes r _ _ _ _ before b refl)
+      pub look-named : e ≤ total → Elements (record { first = p; end = e }) ≡ lookedUp ss list k
+      look-named h =
+          let most : first ss list k + many ss list k ≤ length ss = omega (arith, end-is) in
+          known _ (lt-not _ _ _ _ _ most (rw (end-is, first-is)))
 
-        pub fault-none : r ≡ false → None ≡ faultOf ss list at d
-        fault-none b = within _ (no r _ _ _ _ before b refl)
+-- ---- what the answer x of that look-up tells
 
--- ---- the first fault: of the descriptors up to the place stop, those before the place at had none
+module _ (ss : List Slot) (list : List ℕ) (k : ℕ) where
+  -- the elements named are in the table, and there is one
+  pub record Inside (s : Span) : Type 0 where
+    pub span-is : s ≡ spanAt ss list k
+    pub some : 1 ≤ many ss list k
+    pub most : first ss list k + many ss list k ≤ length ss
+    pub left : judgedAt ss list k ≡ when (namedBefore ss list k) wrong (Elements s)
 
-module _ (ss : List Slot) (list : List ℕ) where
-  abbrev pub Judged : ℕ → ℕ → Type 0
-  Judged stop at = (at % descriptorSize ≡ 0) × (faultIn ss list ≡ faultFrom ss list ((stop - at) / descriptorSize) (at / descriptorSize))
+  names-some : unknown ss list k ≡ false → 1 ≤ many ss list k
+  unfolding unknown first many
+  names-some u =
+      let h = place-in ss (address list k) (eqb-false (kindOf ss (address list k)) 0 u) in
+      on (λ (n : ℕ). 1 ≤ n) (eqb (number list k) 0) (λ _. omega arith) (λ e. let d : number list k ≢ 0 = eqb-false (number list k) 0 e in omega arith)
 
-  module _ (stop : ℕ) (last : stop ≡ descriptorSize * descriptors list) where
-    pub judged-start : Judged stop 0
-    unfolding faultIn
-    judged-start = (refl, let z : (stop - 0) / descriptorSize ≡ descriptors list = omega arith in rw z)
+  module _ (x : Named) (is : x ≡ lookedUp ss list k) where
+    pub told-wrong : (c : Cause) → x ≡ Wrong c → Wrong c ≡ judgedAt ss list k
+    unfolding lookedUpThen judgedAt when
+    told-wrong c e = go (differ (reservedBytes list k) 0) (unknown ss list k) (tooMany ss list k) (sym e ∙ is)
+      where
+        go : (a b m : Bool) → Wrong c ≡ when a (Wrong ListField) (when b wrong (when m wrong (Elements (spanAt ss list k))))
+            → Wrong c ≡ when a (Wrong ListField) (when b wrong (when m wrong (when (namedBefore ss list k) wrong (Elements (spanAt ss list k)))))
+        go true b m w = w
+        go false true m w = w
+        go false false true w = w
+        go false false false w = let y : _≡_ {A = ℕ} 0 1 = cc in absurd (let z : ⊥ = omega arith in z)
 
-    module _ (at : ℕ) (so-far : Judged stop at) where
-      module _ (h : at < stop) (d : Step) (read : d ≡ stepAt list at) (x : Fault) (is : x ≡ faultOf ss list at d) where
-        turn : faultIn ss list ≡ orElse x (faultFrom ss list ((stop - d .after) / descriptorSize) (d .after / descriptorSize))
-        unfolding faultFrom faultAt
-        turn =
-            let k = at / descriptorSize in
-            let here : descriptorSize * k ≡ at = omega (arith, so-far .0) in
-            let left : (stop - at) / descriptorSize ≡ suc ((stop - d .after) / descriptorSize) = omega (arith, so-far .0, next-place list at d read) in
-            let next : d .after / descriptorSize ≡ suc k = omega (arith, so-far .0, next-place list at d read) in
-            so-far .1 ∙ rw (left, next, is, read, here)
+    pub told-inside : (s : Span) → x ≡ Elements s → Inside s
+    unfolding lookedUpThen judgedAt tooMany when
+    told-inside s e = go (differ (reservedBytes list k) 0) (unknown ss list k) refl (ltb (length ss) (first ss list k + many ss list k)) refl (sym e ∙ is) refl
+      where
+        go : (a b : Bool) → unknown ss list k ≡ b → (m : Bool) → ltb (length ss) (first ss list k + many ss list k) ≡ m
+            → Elements s ≡ when a (Wrong ListField) (when b wrong (when m wrong (Elements (spanAt ss list k))))
+            → judgedAt ss list k ≡ when a (Wrong ListField) (when b wrong (when m wrong (when (namedBefore ss list k) wrong (Elements (spanAt ss list k)))))
+            → Inside s
+        go true b u m t w j = let y : _≡_ {A = ℕ} 0 1 = cc in absurd (let z : ⊥ = omega arith in z)
+        go false true u m t w j = let y : _≡_ {A = ℕ} 0 1 = cc in absurd (let z : ⊥ = omega arith in z)
+        go false false u true t w j = let y : _≡_ {A = ℕ} 0 1 = cc in absurd (let z : ⊥ = omega arith in z)
+        go false false u false t w j =
+            let d : s ≡ spanAt ss list k = cc in
+            record { span-is = d; some = names-some u; most = ltb-false _ _ t; left = j ∙ rw d }
 
-        pub judged-fault : (cause : Cause) → x ≡ Because cause → Because cause ≡ faultIn ss list
-        unfolding orElse
-        judged-fault cause e = sym (turn ∙ rw e)
+-- ---- no fault: the elements are those that the rules name
 
-        pub judged-more : x ≡ None → Judged stop (d .after)
-        unfolding orElse
-        judged-more e = (omega (arith, so-far .0, next-place list at d read), turn ∙ rw e)
+pub named-span : (ss : List Slot) (list : List ℕ) (k : ℕ) (s : Span) → Elements s ≡ judgedAt ss list k → (s .end - s .first ≡ many ss list k) × (s .first ≡ first ss list k)
+unfolding judgedAt lookedUpThen when
+named-span ss list k s e = go (differ (reservedBytes list k) 0) (unknown ss list k) (tooMany ss list k) (namedBefore ss list k) e
+  where
+    go : (a b m d : Bool) → Elements s ≡ when a (Wrong ListField) (when b wrong (when m wrong (when d wrong (Elements (spanAt ss list k)))))
+        → (s .end - s .first ≡ many ss list k) × (s .first ≡ first ss list k)
+    go true b m d w = let y : _≡_ {A = ℕ} 0 1 = cc in absurd (let z : ⊥ = omega arith in z)
+    go false true m d w = let y : _≡_ {A = ℕ} 0 1 = cc in absurd (let z : ⊥ = omega arith in z)
+    go false false true d w = let y : _≡_ {A = ℕ} 0 1 = cc in absurd (let z : ⊥ = omega arith in z)
+    go false false false true w = let y : _≡_ {A = ℕ} 0 1 = cc in absurd (let z : ⊥ = omega arith in z)
+    go false false false false w =
+        let x : s ≡ spanAt ss list k = cc in
+        let f : s .first ≡ first ss list k = ap (λ (o : Span). o .first) x in
+        let l : s .end ≡ first ss list k + many ss list k = ap (λ (o : Span). o .end) x in
+        (omega arith, f)
 
-      pub judged-end : stop ≤ at → None ≡ faultIn ss list
-      unfolding faultFrom
-      judged-end h = let e : (stop - at) / descriptorSize ≡ 0 = omega arith in sym (so-far .1 ∙ rw e)
+-- ---- the elements that it names, and the marks of those named before
 
--- ---- what the k-th descriptor names and its fault, in the rules' words
+module _ (ss : List Slot) (list : List ℕ) (k : ℕ) (ms : List ℕ) (asked : Judging ss list k ms) (s : Span) (there : Inside ss list k s) where
+  starts : s .first ≡ first ss list k
+  starts = ap (λ (x : Span). x .first) (there .span-is)
 
-module _ (ss : List Slot) (list : List ℕ) where
-  pub span-names : (k : ℕ) → spanAt ss list k ≡ record { first = first ss list k; end = first ss list k + many ss list k }
-  unfolding spanAt spanOf first many
-  span-names k = rw (the-kth list k)
+  stops : s .end ≡ first ss list k + many ss list k
+  stops = ap (λ (x : Span). x .end) (there .span-is)
 
-  -- s is the span of the descriptor d, which was read at a place
-  pub span-at : (at : ℕ) (d : Step) (s : Span) → at % descriptorSize ≡ 0 → d ≡ stepAt list at → s ≡ spanOf ss d → s ≡ spanAt ss list (at / descriptorSize)
-  unfolding spanAt
-  span-at at d s whole read is = let here : descriptorSize * (at / descriptorSize) ≡ at = omega arith in is ∙ rw (here, read)
+  as-many : s .end - s .first ≡ many ss list k
+  as-many = omega (arith, starts, stops)
 
-  fault-rules : (k : ℕ)
-      → faultAt ss list k ≡ faultBy (differ (reservedBytes list k) 0) (unknown ss list k) (tooMany ss list k) (namedBefore ss list k)
-  unfolding faultAt faultOf spanAt spanOf stepAt reservedBytes number address first many unknown tooMany namedBefore meetsBefore meet meets
-  fault-rules k = let e : descriptorSize * k / descriptorSize ≡ k = omega arith in rw e
+  pub span-up : s .first ≤ s .end
+  span-up = omega (arith, starts, stops)
 
--- ---- where there is no fault, the elements named are in the table
+  pub span-most : s .end ≤ length ss
+  span-most = omega (arith, stops, there .most)
 
-module _ (ss : List Slot) (list : List ℕ) where
-  inside-at : (k : ℕ) → None ≡ faultAt ss list k → spanAt ss list k .end ≤ length ss
-  unfolding tooMany when
-  inside-at k e =
-      rw (span-names ss list k)
-      (go (differ (reservedBytes list k) 0) (unknown ss list k) (ltb (length ss) (first ss list k + many ss list k)) (namedBefore ss list k) refl
-      (e ∙ fault-rules ss list k))
-    where
-      go : (a b c d : Bool) → ltb (length ss) (first ss list k + many ss list k) ≡ c
-          → None ≡ faultBy a b c d → first ss list k + many ss list k ≤ length ss
-      go true b c d t w = let y : _≡_ {A = ℕ} 0 1 = cc in omega arith
-      go false true c d t w = let y : _≡_ {A = ℕ} 0 1 = cc in omega arith
-      go false false true d t w = let y : _≡_ {A = ℕ} 0 1 = cc in omega arith
-      go false false false d t w = ltb-false _ _ t
+  pub span-few : s .end ≤ 512
+  span-few = omega (arith, span-most, asked .few)
 
-  inside-from : (n k : ℕ) → None ≡ faultFrom ss list n k → (j : ℕ) → k ≤ j → j < k + n → spanAt ss list j .end ≤ length ss
-  unfolding faultFrom orElse
-  inside-from zero k e j l h = absurd (omega arith)
-  inside-from (suc n) k e j l h = go (inside-from n (suc k)) (faultAt ss list k) refl e
-    where
-      go : (None ≡ faultFrom ss list n (suc k) → (i : ℕ) → suc k ≤ i → i < suc k + n → spanAt ss list i .end ≤ length ss)
-          → (x : Fault) → faultAt ss list k ≡ x → None ≡ orElse x (faultFrom ss list n (suc k)) → spanAt ss list j .end ≤ length ss
-      go ih (Because cause) t w = let y : _≡_ {A = ℕ} 0 1 = cc in omega arith
-      go ih None t w = either j k (λ d. rw d (inside-at k (sym t))) (λ d. ih w j (omega arith) (omega arith))
+  module _ (r : Bool) (is : r ≡ anyFrom (marked ms) (s .end - s .first) (s .first)) where
+    before : r ≡ namedBefore ss list k
+    before = is ∙ rw (as-many, starts) (before-is ss list k ms (asked .so-far) (there .some) (omega (arith, there .most, asked .few)))
 
-  pub nameable : None ≡ faultIn ss list → Nameable ss list
-  unfolding faultIn
-  nameable e j h = inside-from (descriptors list) 0 e j (omega arith) (omega arith)
+    pub told-named : r ≡ true → wrong ≡ judgedAt ss list k
+    told-named t = rw (there .left) (yes r _ _ _ _ before t refl)
 
--- ---- what the first fault means is what the rules say of the list
+    pub told-new : r ≡ false → Elements s ≡ judgedAt ss list k
+    told-new t = rw (there .left) (no r _ _ _ _ before t refl)
 
-module _ (ss : List Slot) (list : List ℕ) (h : ℕ) (rest : Verdict) where
-  refusing-from : (n k : ℕ) → refusing h rest (faultFrom ss list n k) ≡ faultsFrom ss h list n k rest
-  unfolding faultFrom faultsFrom refusing wrongAddress when anyOf orElse reason
-  refusing-from zero k = refl
-  refusing-from (suc n) k =
-      rw (fault-rules ss list k)
-      (go (differ (reservedBytes list k) 0) (unknown ss list k) (tooMany ss list k) (namedBefore ss list k) (refusing-from n (suc k)))
-    where
-      go : (a b c d : Bool) → refusing h rest (faultFrom ss list n (suc k)) ≡ faultsFrom ss h list n (suc k) rest
-          → refusing h rest (orElse (faultBy a b c d) (faultFrom ss list n (suc k)))
-          ≡ when a (refused h ListField) (when (anyOf (b ∷ c ∷ d ∷ [])) (refused h WrongAddress) (faultsFrom ss h list n (suc k) rest))
-      go true b c d ih = refl
-      go false true c d ih = refl
-      go false false true d ih = refl
-      go false false false true ih = refl
-      go false false false false ih = ih
-
-  pub refusing-is : refusing h rest (faultIn ss list) ≡ faultsFrom ss h list (descriptors list) 0 rest
-  unfolding faultIn
-  refusing-is = refusing-from (descriptors list) 0
+  pub told-marks : (ms′ : List ℕ) → ms′ ≡ each markAt (s .end - s .first) (s .first) ms → Marks ss list (k + 1) ms′
+  told-marks ms′ e = marks-more ss list k ms (asked .so-far) (there .some) ms′ (rw (as-many, starts) at e)

@@ -1,82 +1,70 @@
--- RESERVE's list as the code reads it: what a descriptor names, and its fault. Assumes nothing.
-use Prim.Native.Nat.{ℕ, zero, suc, _+_, _-_, _*_, _/_, _%_, _≤_, _<_}
+-- RESERVE's list as the code reads it: what a descriptor names or its fault, and the places named so far. Assumes nothing.
+use Prim.Native.Nat.{ℕ, _+_, _≤_, _<_}
 use mathlib.Core.Path.{_≡_}
-use mathlib.Core.List.{List, [], _∷_}
+use mathlib.Core.List.{List}
 use mathlib.Core.Bool.{Bool}
-use lib.ListN.{length}
-use lib.Dec.{eqb, ltb}
-use Rattle.rules.specs.Choice.{when, allOf, differ, anyFrom}
-use Rattle.rules.specs.Roster.{Slot, placeOf, kindOf}
-use Rattle.rules.specs.Order.{Verdict, refused}
-use Rattle.rules.specs.Tables.{descriptorSize}
-use Rattle.rules.specs.Holds.{descriptors}
-use Rattle.tables.specs.declared.Range.{Range}
-use Rattle.tables.specs.Ranges.{Typed}
+use lib.ListN.{length, getD, set}
+use lib.Dec.{eqb}
+use Rattle.rules.specs.Choice.{when, differ, anyFrom}
+use Rattle.rules.specs.Tables.{mostElements}
+use Rattle.rules.specs.Roster.{Slot}
+use Rattle.rules.specs.Holds.{descriptors, reservedBytes, first, many, unknown, tooMany, namedBefore}
 use Rattle.order.specs.declared.Cause.the-variants.{ListField, WrongAddress}
-use Rattle.order.specs.Ending.{reason}
-use Rattle.reader.specs.declared.Step.{Step}
-use Rattle.reader.specs.Read.{stepAt}
 use Rattle.lists.specs.declared.Span.{Span}
-use Rattle.lists.specs.declared.Fault.{Fault}
-use Rattle.lists.specs.declared.Fault.the-variants.{Because, None}
+use Rattle.lists.specs.declared.Named.{Named}
+use Rattle.lists.specs.declared.Named.the-variants.{Wrong, Elements}
 
--- the elements that a descriptor names
-unfoldable pub spanOf : List Slot → Step → Span
-spanOf ss d =
-    let p = placeOf ss (d .address) in
-    record { first = p; end = p + when (eqb (d .number) 0) (length ss - p) (d .number) }
+-- ---- the k-th descriptor, from 0
 
--- those that the k-th names, from 0
-unfoldable pub spanAt : List Slot → List ℕ → ℕ → Span
-spanAt ss list k = spanOf ss (stepAt list (descriptorSize * k))
-
-unfoldable pub meets : Span → Span → Bool
-meets a b = allOf (ltb (b .first) (a .end) ∷ ltb (a .first) (b .end) ∷ [])
-
--- one of the descriptors before the place
-unfoldable pub meetsBefore : List Slot → List ℕ → ℕ → Span → Bool
-meetsBefore ss list at s = anyFrom (λ k. meets s (spanAt ss list k)) (at / descriptorSize) 0
+-- the elements that it names
+abbrev pub spanAt : List Slot → List ℕ → ℕ → Span
+spanAt ss list k = record { first = first ss list k; end = first ss list k + many ss list k }
 
 -- "an unknown address or too many"
-abbrev pub wrong : Fault
-wrong = Because WrongAddress
+abbrev pub wrong : Named
+wrong = Wrong WrongAddress
 
--- one rung for each test: reserved bytes, unknown, too many, named before
-abbrev pub faultBy : Bool → Bool → Bool → Bool → Fault
-faultBy a b c d = when a (Because ListField) (when b wrong (when c wrong (when d wrong None)))
+-- one rung for each test, and what follows: reserved bytes, unknown, too many
+unfoldable pub lookedUpThen : List Slot → List ℕ → ℕ → Named → Named
+lookedUpThen ss list k rest =
+    when (differ (reservedBytes list k) 0) (Wrong ListField) (when (unknown ss list k) wrong (when (tooMany ss list k) wrong rest))
 
--- of the descriptor d at a place
-unfoldable pub faultOf : List Slot → List ℕ → ℕ → Step → Fault
-faultOf ss list at d =
-    faultBy (differ (d .reserved) 0) (eqb (kindOf ss (d .address)) 0) (ltb (length ss) (spanOf ss d .end)) (meetsBefore ss list at (spanOf ss d))
+abbrev pub lookedUp : List Slot → List ℕ → ℕ → Named
+lookedUp ss list k = lookedUpThen ss list k (Elements (spanAt ss list k))
 
-unfoldable pub faultAt : List Slot → List ℕ → ℕ → Fault
-faultAt ss list k = faultOf ss list (descriptorSize * k) (stepAt list (descriptorSize * k))
+-- and, last, named before
+unfoldable pub judgedAt : List Slot → List ℕ → ℕ → Named
+judgedAt ss list k = lookedUpThen ss list k (when (namedBefore ss list k) wrong (Elements (spanAt ss list k)))
 
--- the first fault, where there is one
-unfoldable pub orElse : Fault → Fault → Fault
-orElse (Because c) rest = Because c
-orElse None rest = rest
+-- ---- a mark for each place
 
--- of the n descriptors from k on
-unfoldable pub faultFrom : List Slot → List ℕ → ℕ → ℕ → Fault
-faultFrom ss list zero k = None
-faultFrom ss list (suc n) k = orElse (faultAt ss list k) (faultFrom ss list n (suc k))
+unfoldable pub marked : List ℕ → ℕ → Bool
+marked marks p = differ (getD marks p 0) 0
 
-unfoldable pub faultIn : List Slot → List ℕ → Fault
-faultIn ss list = faultFrom ss list (descriptors list) 0
+unfoldable pub markAt : ℕ → List ℕ → List ℕ
+markAt p marks = set marks p 1
 
--- what a fault means: it refuses, or the rest follows
-unfoldable pub refusing : ℕ → Verdict → Fault → Verdict
-refusing h rest (Because c) = refused h (reason c)
-refusing h rest None = rest
+-- the k-th descriptor names the element at a place
+unfoldable pub names : List Slot → List ℕ → ℕ → ℕ → Bool
+names ss list k p = anyFrom (λ q. eqb q p) (many ss list k) (first ss list k)
 
--- each descriptor names elements of the table
-abbrev pub Nameable : List Slot → List ℕ → Type 0
-Nameable ss list = (k : ℕ) → k < descriptors list → spanAt ss list k .end ≤ length ss
+-- one of the first n does
+unfoldable pub named : List Slot → List ℕ → ℕ → ℕ → Bool
+named ss list n p = anyFrom (λ k. names ss list k p) n 0
 
--- a place between two descriptors of a list whose addresses are looked up in runs that have types
-pub record Between (runs : List Range) (list : List ℕ) (at : ℕ) : Type 0 where
-  pub typed : Typed runs
-  pub whole : at % descriptorSize ≡ 0
-  pub within : at ≤ length list
+-- of the first n descriptors each names an element, and all that they name is marked, and nothing else
+pub record Marks (ss : List Slot) (list : List ℕ) (n : ℕ) (marks : List ℕ) : Type 0 where
+  pub wide : length marks ≡ mostElements
+  pub some : (k : ℕ) → k < n → 1 ≤ many ss list k
+  pub told : (p : ℕ) → p < mostElements → marked marks p ≡ named ss list n p
+
+-- the k-th descriptor can be judged: there are marks enough, and those for the descriptors before it
+pub record Judging (ss : List Slot) (list : List ℕ) (k : ℕ) (marks : List ℕ) : Type 0 where
+  pub few : length ss ≤ mostElements
+  pub there : k < descriptors list
+  pub so-far : Marks ss list k marks
+
+-- where nothing was wrong, it names elements of the table, which are marked too
+abbrev pub Judged : List Slot → List ℕ → ℕ → List ℕ → Named → Type 0
+Judged ss list n marks (Wrong c) = Unit {0}
+Judged ss list n marks (Elements s) = (s .first ≤ s .end) × (s .end ≤ length ss) × Marks ss list n marks

@@ -1,18 +1,17 @@
-// RESERVE's parameter list: what its descriptors name, and the first fault in it.
+// RESERVE's parameter list: what each of its descriptors names, marked place by place, or why it is refused.
 use order::Cause;
-use reader::Step;
 use tables::Found;
 use tables::Range;
 use tables::Types;
 ghost use mathlib.Core.Path.{_≡_};
-ghost use Prim.Native.Nat.{_+_, _-_, _*_, _<_, _≤_};
+ghost use mathlib.Core.Bool.{false};
+ghost use Prim.Native.Nat.{_+_, _-_, _<_, _≤_};
 ghost use lib.Dec.{eqb};
-ghost use Rattle.rules.specs.Choice.{when};
-ghost use Rattle.rules.specs.Roster.{placeOf};
-ghost use Rattle.rules.specs.Tables.{descriptorSize};
+ghost use Rattle.rules.specs.Choice.{when, anyFrom, each};
+ghost use Rattle.rules.specs.Tables.{mostElements};
 ghost use Rattle.rules.specs.Holds.{descriptors, wrongListLength};
-ghost use Rattle.tables.specs.Ranges.{laid, Typed};
-ghost use Rattle.lists.specs.Named.{spanOf, meets, meetsBefore, faultOf, faultIn, Between};
+ghost use Rattle.tables.specs.Ranges.{laid};
+ghost use Rattle.lists.specs.Named.{lookedUp, judgedAt, marked, markAt, Judging, Judged};
 
 // The elements that a descriptor names: the first place, and the one behind the last.
 pub struct Span {
@@ -20,17 +19,17 @@ pub struct Span {
     pub end: usize,
 }
 
-// Why a list is refused; or that nothing is wrong.
-pub enum Fault {
-    Because(Cause),
-    None,
+// What a descriptor names, or why it is refused.
+pub enum Named {
+    Wrong(Cause),
+    Elements(Span),
 }
 
-// The place behind the last descriptor.
-pub fn stop(list: &[u8]) -> usize
-    ensures { λ r. ⌜ r ≡ descriptorSize * descriptors (now (list .entry)) ⌝ }
+// How many descriptors a list holds.
+pub fn count(list: &[u8]) -> usize
+    ensures { λ r. ⌜ r ≡ descriptors (now (list .entry)) ⌝ }
 {
-    layout::DESCRIPTOR_SIZE * (list.len() / layout::DESCRIPTOR_SIZE)
+    list.len() / layout::DESCRIPTOR_SIZE
 }
 
 // "1 to 32 descriptors of 6 bytes"
@@ -59,91 +58,64 @@ fn end_of(total: usize, first: usize, number: u16) -> usize
     first + (number as usize)
 }
 
-// The place of an address; the number of elements where it is no element's.
-fn place_of(runs: [Range; 4], address: u16) -> usize
-    requires { ⌜ Typed runs ⌝ }
-    ensures { λ r. ⌜ r ≡ placeOf (laid runs) address ⌝ }
+// "reserved bytes before the address .. an unknown address or too many": here an address is looked up, once.
+fn look_up(runs: [Range; 4], list: &[u8], k: usize) -> Named
+    requires { ⌜ k < descriptors (now list) ⌝ }
+    ensures { λ r. ⌜ r ≡ lookedUp (laid runs) (now (list .entry)) k ⌝ }
 {
-    let Found::At(p) = tables::find(runs, address as u32, Types::Any) else {
-        return tables::total(runs);
-    };
-    p
-}
-
-// The elements that a descriptor names.
-pub fn span_of(runs: [Range; 4], d: Step) -> Span
-    requires { ⌜ Typed runs ⌝ }
-    ensures { λ r. ⌜ r ≡ spanOf (laid runs) d ⌝ }
-{
-    let total = tables::total(runs);
-    let first = place_of(runs, d.address);
-    Span {
-        first,
-        end: end_of(total, first, d.number),
-    }
-}
-
-// Whether an element stands in both.
-fn meet(a: Span, b: Span) -> bool
-    ensures { λ r. ⌜ r ≡ meets a b ⌝ }
-{
-    if b.first < a.end {
-        return a.first < b.end;
-    }
-    false
-}
-
-// Whether a descriptor before the place names an element of the span.
-fn named_before(runs: [Range; 4], list: &[u8], at: usize, s: Span) -> bool
-    requires { ⌜ Between runs (now list) at ⌝ }
-    ensures { λ r. ⌜ r ≡ meetsBefore (laid runs) (now (list .entry)) at s ⌝ }
-{
-    let mut before: usize = 0;
-    while before < at {
-        let d = reader::read_at(list, before);
-        if meet(s, span_of(runs, d)) {
-            return true;
-        }
-        before = d.after;
-    }
-    false
-}
-
-// "reserved bytes before the address .. an unknown address or too many": of the descriptor d at a place.
-fn fault_of(runs: [Range; 4], list: &[u8], at: usize, d: Step) -> Fault
-    requires { ⌜ Between runs (now list) at ⌝ }
-    ensures { λ r. ⌜ r ≡ faultOf (laid runs) (now (list .entry)) at d ⌝ }
-{
+    let d = reader::read_at(list, layout::DESCRIPTOR_SIZE * k);
     if d.reserved != 0 {
-        return Fault::Because(Cause::ListField);
+        return Named::Wrong(Cause::ListField);
     }
     let Found::At(first) = tables::find(runs, d.address as u32, Types::Any) else {
-        return Fault::Because(Cause::WrongAddress);
+        return Named::Wrong(Cause::WrongAddress);
     };
     let total = tables::total(runs);
     let end = end_of(total, first, d.number);
     if total < end {
-        return Fault::Because(Cause::WrongAddress);
+        return Named::Wrong(Cause::WrongAddress);
     }
-    if named_before(runs, list, at, Span { first, end }) {
-        return Fault::Because(Cause::WrongAddress);
-    }
-    Fault::None
+    Named::Elements(Span { first, end })
 }
 
-// "Descriptors are judged in order .. the first fault is told"
-pub fn first_fault(runs: [Range; 4], list: &[u8]) -> Fault
-    requires { ⌜ Typed runs ⌝ }
-    ensures { λ r. ⌜ r ≡ faultIn (laid runs) (now (list .entry)) ⌝ }
+// Whether one of the places is marked; where none is, each of them is from now on.
+fn mark(marks: &mut [u8; layout::MOST_ELEMENTS], s: Span) -> bool
+    requires { ⌜ s .first ≤ s .end ⌝ }
+    requires { ⌜ s .end ≤ mostElements ⌝ }
+    ensures { λ r. ⌜ r ≡ anyFrom (marked (now (marks .entry))) (s .end - s .first) (s .first) ⌝ }
+    ensures { λ r. ⌜ (r ≡ false → now (marks .exit) ≡ each markAt (s .end - s .first) (s .first) (now (marks .entry))) ⌝ }
 {
-    let stop = stop(list);
-    let mut at: usize = 0;
-    while at < stop {
-        let d = reader::read_at(list, at);
-        if let Fault::Because(cause) = fault_of(runs, list, at, d) {
-            return Fault::Because(cause);
+    let end = s.end;
+    let mut p = s.first;
+    while p < end {
+        if marks[p] != 0 {
+            return true;
         }
-        at = d.after;
+        marks[p] = 1;
+        p += 1;
     }
-    Fault::None
+    false
+}
+
+// The k-th descriptor, where those before it had no fault and what they name is marked: an element that is marked "is already specified in
+// another element descriptor".
+pub fn judge(
+    runs: [Range; 4],
+    list: &[u8],
+    k: usize,
+    marks: &mut [u8; layout::MOST_ELEMENTS],
+) -> Named
+    requires { ⌜ Judging (laid runs) (now list) k (now marks) ⌝ }
+    ensures { λ r. ⌜ r ≡ judgedAt (laid runs) (now (list .entry)) k ⌝ }
+    ensures { λ r. ⌜ Judged (laid runs) (now (list .entry)) (k + 1) (now (marks .exit)) r ⌝ }
+{
+    match look_up(runs, list, k) {
+        Named::Wrong(cause) => Named::Wrong(cause),
+        Named::Elements(s) => {
+            if mark(marks, s) {
+                return Named::Wrong(Cause::WrongAddress);
+            }
+            Named::Elements(s)
+        }
+    }
 }

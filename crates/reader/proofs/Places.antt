@@ -1,11 +1,10 @@
--- What the reader reads at a place: three numbers, which are the rules' k-th descriptor, from 0; and the place of the next. Assumes nothing.
+-- What the reader reads at a place: three numbers, which are the rules' k-th descriptor, from 0. Assumes nothing.
 use Prim.Native.Nat.{ℕ, _+_, _*_}
-use mathlib.Core.Path.{_≡_, refl, ap}
+use mathlib.Core.Path.{_≡_, refl}
 use mathlib.Core.List.{List}
 use Rattle.rules.specs.Bytes.{word}
 use Rattle.rules.specs.Tables.{descriptorSize}
 use Rattle.rules.specs.Holds.{reservedBytes, number, address}
-use Rattle.reader.specs.declared.Step.{Step}
 use Rattle.reader.specs.Read.{stepAt}
 
 pub step-is : (list : List ℕ) (at reserved n a : ℕ) → reserved ≡ word list at → n ≡ word list (at + 2) → a ≡ word list (at + 4)
@@ -18,7 +17,3 @@ pub the-kth : (list : List ℕ) (k : ℕ)
     ≡ record { reserved = reservedBytes list k; number = number list k; address = address list k; after = descriptorSize * k + descriptorSize }
 unfolding stepAt reservedBytes number address
 the-kth list k = refl
-
-pub next-place : (list : List ℕ) (at : ℕ) (d : Step) → d ≡ stepAt list at → d .after ≡ at + descriptorSize
-unfolding stepAt
-next-place list at d is = ap (λ (x : Step). x .after) is

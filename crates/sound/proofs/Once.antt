@@ -5,7 +5,7 @@ use mathlib.Core.Path.{_≡_, refl, sym, _∙_}
 use mathlib.Core.Logic.{_≢_}
 use mathlib.Core.List.{List}
 use mathlib.Core.Bool.{Bool, true, false}
-use lib.ListN.{getD, set, length-set, replicate, length-replicate, getD-replicate}
+use lib.ListN.{length, getD, set, length-set, replicate, length-replicate, getD-replicate}
 use lib.Seq.{getD-set-same, getD-set-other}
 use lib.Dec.{eqb}
 use borrow.Author.Tests.{eq-eqb, ne-eqb, eqb-true, eqb-false}
@@ -19,15 +19,15 @@ absent-step : (es : List ℕ) (p y : ℕ) → absent es (p + 1) y ≡ when (diff
 unfolding absent
 absent-step es p y = below-step p (λ q. differ (volume es q) y)
 
-pub marks-begin : (es : List ℕ) → Marks es 0 (replicate 513 0)
+pub marks-begin : (es : List ℕ) (n : ℕ) → Marks es 0 (replicate n 0)
 unfolding absent below when
-marks-begin es = record { wide = length-replicate {A = ℕ} 513 0; told = λ y l u. getD-replicate 513 y 0 0 u }
+marks-begin es n = record { told = λ y l u. getD-replicate n y 0 0 (omega (arith, length-replicate {A = ℕ} n 0)) }
 
 -- the volume v at the place p, where the numbers at the places before it are marked
 module _ (es seen : List ℕ) (p v : ℕ) (marks : Marks es p seen) (is : v ≡ volume es p) where
-  module _ (some : v ≢ 0) (small : v ≤ 512) where
+  module _ (some : v ≢ 0) (small : v < length seen) where
     told : getD seen v 0 ≡ when (absent es p v) 0 1
-    told = marks .told v (omega arith) (omega arith)
+    told = marks .told v (omega arith) small
 
     once-is : once es p ≡ absent es p v
     unfolding once absent when
@@ -49,11 +49,11 @@ module _ (es seen : List ℕ) (p v : ℕ) (marks : Marks es p seen) (is : v ≡ 
     pub stands-once : getD seen v 0 ≡ 0 → once es p ≡ true
     stands-once d = once-is ∙ free (absent es p v) refl d
 
-    marked : (y : ℕ) → 0 < y → y < 513 → (t : Bool) → eqb v y ≡ t → getD (set seen v 1) y 0 ≡ when (absent es (p + 1) y) 0 1
+    marked : (y : ℕ) → 0 < y → y < length seen → (t : Bool) → eqb v y ≡ t → getD (set seen v 1) y 0 ≡ when (absent es (p + 1) y) 0 1
     unfolding when
     marked y l u true t =
         let w : v ≡ y = eqb-true v y t in
-        let m : getD (set seen v 1) v 0 ≡ 1 = getD-set-same seen v 1 0 (omega (arith, marks .wide)) in
+        let m : getD (set seen v 1) v 0 ≡ 1 = getD-set-same seen v 1 0 small in
         let a : absent es (p + 1) y ≡ false = absent-step es p y ∙ rw (eq-differ (volume es p) y (sym is ∙ w)) in
         rw (a, ← w) m
     marked y l u false t =
@@ -62,7 +62,7 @@ module _ (es seen : List ℕ) (p v : ℕ) (marks : Marks es p seen) (is : v ≡ 
         rw (m, a) (marks .told y l u)
 
     pub mark-new : Marks es (p + 1) (set seen v 1)
-    mark-new = record { wide = length-set seen v 1 ∙ marks .wide; told = λ y l u. marked y l u (eqb v y) refl }
+    mark-new = record { told = λ y l u. marked y l (omega (arith, length-set seen v 1)) (eqb v y) refl }
 
   module _ (e : v ≡ 0) where
     pub stands-none : once es p ≡ true
@@ -73,7 +73,6 @@ module _ (es seen : List ℕ) (p v : ℕ) (marks : Marks es p seen) (is : v ≡ 
     unfolding when
     mark-none =
         record {
-          wide = marks .wide;
           told = λ y l u.
               let a : absent es (p + 1) y ≡ absent es p y = absent-step es p y ∙ rw (ne-differ (volume es p) y (λ w. omega arith)) in
               rw a (marks .told y l u);

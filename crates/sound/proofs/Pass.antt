@@ -7,7 +7,7 @@ use mathlib.Core.Path.{_≡_, refl, sym, ap, _∙_}
 use mathlib.Core.Logic.{_≢_}
 use mathlib.Core.Bool.{Bool, true, false, not}
 use mathlib.Core.List.{List, [], _∷_, map}
-use lib.ListN.{length, getD, set, drop}
+use lib.ListN.{length, getD, set, drop, length-set}
 use lib.Dec.{eqb, leb}
 use borrow.Author.Tests.{not-true, not-false, lt-ltb, le-ltb, leb-true, leb-false, le-leb, lt-leb, eqb-true, eqb-false}
 use Rattle.rules.specs.Ranges.{total}
@@ -18,9 +18,7 @@ use Rattle.rules.specs.Roster.{Range, Slot, kindAt, transport}
 use Rattle.rules.specs.Sound.{transportEmpty, sourceSound, markSound, stockSound, holdSound, once, elementsSound}
 use Rattle.rules.proofs.Ladder.{on, below-step, below-at, below-of, below-fails, all-first}
 use Rattle.tables.specs.declared.Range.{Range as Code}
-use Rattle.tables.specs.declared.Slot.{Slot as Declared}
 use Rattle.tables.specs.Ranges.{meaning, meant, laid}
-use Rattle.tables.specs.LookUp.{slotAt}
 use Rattle.tables.proofs.Sort.{none, meant-from, meant-end}
 use Rattle.tables.proofs.Roster.{walk, laid-at, laid-length}
 use Rattle.sound.specs.Checks.{lastOf, endingSound, fitBy, soundAt, soundTo, Marks, Run}
@@ -128,18 +126,19 @@ pub never : {P : Type 0} → false ≡ true → P
 never e = absurd (let y : _≡_ {A = ℕ} 0 1 = cc in let w : ⊥ = omega arith in w)
 
 module _ (u top : ℕ) (ss : List Slot) (es : List ℕ) (kind first end : ℕ) where
-  pub record Passing (seen : List ℕ) (p : ℕ) : Type 0 where
+  pub record Passing (seen₀ seen : List ℕ) (p : ℕ) : Type 0 where
     pub begun : first ≤ p
     pub far : p ≤ end
     pub so-far : soundTo u top ss es p ≡ true
+    pub as-long : length seen ≡ length seen₀
     pub marked : Marks es p seen
 
   module _ (seen₀ : List ℕ) (run : Run u top ss es kind first end seen₀) where
-    pub pass-begins : Passing seen₀ first
+    pub pass-begins : Passing seen₀ seen₀ first
     pass-begins =
-        record { begun = omega arith; far = run .in-order; so-far = run .so-far; marked = run .marked }
+        record { begun = omega arith; far = run .in-order; so-far = run .so-far; as-long = refl; marked = run .marked }
 
-    module _ (seen : List ℕ) (p : ℕ) (at : Passing seen p) where
+    module _ (seen : List ℕ) (p : ℕ) (at : Passing seen₀ seen p) where
       -- the code's test b of the element by itself
       module _ (h : p < end) (last : ℕ) (limit : last ≡ lastOf top kind) (b : Bool) (is : b ≡ fitBy u last ss es kind p) where
         whole : soundAt u top ss es p ≡ when b (once es p) false
@@ -165,13 +164,14 @@ module _ (u top : ℕ) (ss : List Slot) (es : List ℕ) (kind first end : ℕ) w
         unfolding soundTo
         stops e = sym (below-fails end (soundAt u top ss es) p h e)
 
-        goes : (s : List ℕ) → soundAt u top ss es p ≡ true → Marks es (p + 1) s → Passing s (p + 1)
+        goes : (s : List ℕ) → soundAt u top ss es p ≡ true → length s ≡ length seen → Marks es (p + 1) s → Passing seen₀ s (p + 1)
         unfolding soundTo when
-        goes s e m =
+        goes s e l m =
             record {
               begun = omega (arith, at .begun);
               far = omega arith;
               so-far = below-step p (soundAt u top ss es) ∙ rw (e, at .so-far);
+              as-long = l ∙ at .as-long;
               marked = m;
             }
 
@@ -185,24 +185,25 @@ module _ (u top : ℕ) (ss : List Slot) (es : List ℕ) (kind first end : ℕ) w
           unfolding when
           left = whole ∙ rw (not-false b t)
 
-          pub volume-small : v ≤ 512
+          pub volume-small : v < length seen
           unfolding fitBy
           volume-small =
               let l : volume es p ≤ last = leb-true (volume es p) last (all-first _ _ (sym is ∙ not-false b t)) in
-              omega (arith, run .numbers, last-most top kind)
+              omega (arith, run .numbers, at .as-long, last-most top kind)
 
           module _ (some : v ≢ 0) where
             pub pass-twice : getD seen v 0 ≢ 0 → false ≡ soundTo u top ss es end
             pass-twice d = stops (left ∙ stands-twice es seen p v (at .marked) reads some volume-small d)
 
-            pub pass-new : getD seen v 0 ≡ 0 → Passing (set seen v 1) (p + 1)
+            pub pass-new : getD seen v 0 ≡ 0 → Passing seen₀ (set seen v 1) (p + 1)
             pass-new d =
                 goes (set seen v 1)
                 (left ∙ stands-once es seen p v (at .marked) reads some volume-small d)
+                (length-set seen v 1)
                 (mark-new es seen p v (at .marked) reads some volume-small)
 
-          pub pass-empty : v ≡ 0 → Passing seen (p + 1)
-          pass-empty e = goes seen (left ∙ stands-none es seen p v (at .marked) reads e) (mark-none es seen p v (at .marked) reads e)
+          pub pass-empty : v ≡ 0 → Passing seen₀ seen (p + 1)
+          pass-empty e = goes seen (left ∙ stands-none es seen p v (at .marked) reads e) refl (mark-none es seen p v (at .marked) reads e)
 
       pub pass-all : end ≤ p → (true ≡ soundTo u top ss es end) × Marks es end seen
       pass-all h =
@@ -211,36 +212,38 @@ module _ (u top : ℕ) (ss : List Slot) (es : List ℕ) (kind first end : ℕ) w
 
 -- ---- one run after the other: the first k are passed, and the places before `first`
 
-walk-first : (r : Range) (rs : List Range) (i : ℕ) → i < r .count → walk (r ∷ rs) i .kind ≡ r .kind
+walk-first : (r : Range) (rs : List Range) (i : ℕ) → i < r .count → walk (r ∷ rs) i ≡ r .kind
 unfolding walk when
 walk-first r rs i h = rw (lt-ltb i (r .count) h)
 
-walk-later : (r : Range) (rs : List Range) (i : ℕ) → walk (r ∷ rs) (r .count + i) .kind ≡ walk rs i .kind
+walk-later : (r : Range) (rs : List Range) (i : ℕ) → walk (r ∷ rs) (r .count + i) ≡ walk rs i
 unfolding walk when
 walk-later r rs i =
     let e : r .count + i - r .count ≡ i = omega arith in
     rw (le-ltb (r .count + i) (r .count) (omega arith), e)
 
 module _ (u top : ℕ) (runs : List Code) (es : List ℕ) where
-  pub record Filing (seen : List ℕ) (first k : ℕ) : Type 0 where
+  pub record Filing (seen₀ seen : List ℕ) (first k : ℕ) : Type 0 where
     pub far : k ≤ 4
     pub long : first + total (drop k (meant runs)) ≡ length (laid runs)
-    pub rest : (i : ℕ) → kindAt (laid runs) (first + i) ≡ walk (drop k (meant runs)) i .kind
+    pub rest : (i : ℕ) → kindAt (laid runs) (first + i) ≡ walk (drop k (meant runs)) i
     pub so-far : soundTo u top (laid runs) es first ≡ true
+    pub as-long : length seen ≡ length seen₀
     pub marked : Marks es first seen
 
-  pub file-begins : (seen : List ℕ) → Marks es 0 seen → Filing seen 0 0
-  unfolding soundTo below slotAt
+  pub file-begins : (seen : List ℕ) → Marks es 0 seen → Filing seen seen 0 0
+  unfolding soundTo below
   file-begins seen m =
       record {
         far = omega arith;
         long = rw zero-add (sym (laid-length runs));
-        rest = λ i. rw zero-add (ap (λ (s : Declared). s .kind) (laid-at runs i));
+        rest = λ i. rw zero-add (laid-at runs i);
         so-far = refl;
+        as-long = refl;
         marked = m;
       }
 
-  module _ (four : length runs ≡ 4) (seen : List ℕ) (first k : ℕ) (at : Filing seen first k) where
+  module _ (four : length runs ≡ 4) (seen₀ seen : List ℕ) (first k : ℕ) (at : Filing seen₀ seen first k) where
     module _ (h : k < 4) where
       fits : first + getD runs k none .count + total (drop (suc k) (meant runs)) ≡ length (laid runs)
       unfolding total
@@ -256,11 +259,11 @@ module _ (u top : ℕ) (runs : List Code) (es : List ℕ) where
           rw (← e)
           (at .rest i ∙ rw (meant-from runs k four h) (walk-first (meaning (getD runs k none)) (drop (suc k) (meant runs)) i (omega arith)))
 
-      pub file-run : top ≤ 512 → length es ≡ elementSize * length (laid runs)
+      pub file-run : top < length seen₀ → length es ≡ elementSize * length (laid runs)
           → Run u top (laid runs) es (getD runs k none .kind) first (first + getD runs k none .count) seen
       file-run m e =
           record {
-            numbers = m;
+            numbers = rw (at .as-long) m;
             in-order = omega arith;
             there = let w = file-most in omega arith;
             one-type = here;
@@ -269,8 +272,8 @@ module _ (u top : ℕ) (runs : List Code) (es : List ℕ) where
           }
 
       module _ (b : Bool) (is : b ≡ soundTo u top (laid runs) es (first + getD runs k none .count)) where
-        pub file-on : not b ≡ false → (s : List ℕ) → (b ≡ true → Marks es (first + getD runs k none .count) s) → Filing s (first + getD runs k none .count) (k + 1)
-        file-on t s m =
+        pub file-on : not b ≡ false → (s : List ℕ) → length s ≡ length seen → (b ≡ true → Marks es (first + getD runs k none .count) s) → Filing seen₀ s (first + getD runs k none .count) (k + 1)
+        file-on t s l m =
             record {
               far = omega arith;
               long = rw add-one fits;
@@ -278,6 +281,7 @@ module _ (u top : ℕ) (runs : List Code) (es : List ℕ) where
                   rw (add-assoc, add-one)
                   (at .rest (getD runs k none .count + i) ∙ rw (meant-from runs k four h) (walk-later (meaning (getD runs k none)) (drop (suc k) (meant runs)) i));
               so-far = sym is ∙ not-false b t;
+              as-long = l ∙ at .as-long;
               marked = m (not-false b t);
             }
 

@@ -50,15 +50,14 @@ soundTo u top ss elements n = below n (soundAt u top ss elements)
 unfoldable pub absent : List ℕ → ℕ → ℕ → Bool
 absent elements p y = below p (λ q. differ (volume elements q) y)
 
--- a mark for each volume number: 1 where it stands at one of the first p places
+-- a mark for each volume number up to the last that has one: 1 where it stands at one of the first p places
 pub record Marks (elements : List ℕ) (p : ℕ) (seen : List ℕ) : Type 0 where
-  pub wide : length seen ≡ 513
-  pub told : (y : ℕ) → 0 < y → y < 513 → getD seen y 0 ≡ when (absent elements p y) 0 1
+  pub told : (y : ℕ) → 0 < y → y < length seen → getD seen y 0 ≡ when (absent elements p y) 0 1
 
 -- a run of one type, at the places from `first` to before `end`: there are marks enough, the places before it are sound, and their volumes
 -- are marked
 pub record Run (u top : ℕ) (ss : List Slot) (elements : List ℕ) (kind first end : ℕ) (seen : List ℕ) : Type 0 where
-  pub numbers : top ≤ 512
+  pub numbers : top < length seen
   pub in-order : first ≤ end
   pub there : elementSize * end ≤ length elements
   pub one-type : (p : ℕ) → first ≤ p → p < end → kindAt ss p ≡ kind

@@ -2,7 +2,7 @@
 use tables::Range;
 ghost use mathlib.Core.Path.{_≡_};
 ghost use mathlib.Core.Bool.{true};
-ghost use Prim.Native.Nat.{_+_, _*_, _≤_};
+ghost use Prim.Native.Nat.{_+_, _*_, _<_, _≤_};
 ghost use lib.ListN.{length};
 ghost use Rattle.rules.specs.Tables.{elementSize, elementAt, holder, id};
 ghost use Rattle.rules.specs.Sound.{sourceSound, markSound, holdSound, elementsSound};
@@ -11,6 +11,9 @@ ghost use Rattle.sound.specs.Checks.{lastOf, endingSound, fitBy, soundTo
 
 // A mark for each volume number, and none for 0.
 const SEEN: usize = layout::MOST_VOLUMES + 1;
+
+// Marks enough where the volumes are few.
+const FEW: usize = 64;
 
 // "Sound tables now allow only a storage address or 0", "and 0 where empty"
 fn source_sound(runs: [Range; 4], volume: u16, source: u16) -> bool
@@ -126,7 +129,7 @@ fn run_sound(
     first: usize,
     end: usize,
     elements: &[u8],
-    seen: &mut [u8; SEEN],
+    seen: &mut [u8],
 ) -> bool
     requires { ⌜ Run unit top (laid runs) (now elements) kind first end (now seen) ⌝ }
     ensures { λ r. ⌜ r ≡ soundTo unit top (laid runs) (now (elements .entry)) end ⌝ }
@@ -150,25 +153,44 @@ fn run_sound(
     true
 }
 
-// Every place, one run after the other, each once.
-fn places_sound(runs: [Range; 4], unit: u8, top: usize, elements: &[u8]) -> bool
-    requires { ⌜ top ≤ 512 ⌝ }
+// Every place, one run after the other, each once; no number is marked before the first.
+fn places_sound(runs: [Range; 4], unit: u8, top: usize, elements: &[u8], seen: &mut [u8]) -> bool
+    requires { ⌜ (top < length (now seen)) × Marks (now elements) 0 (now seen) ⌝ }
     requires { ⌜ length (now elements) ≡ elementSize * length (laid runs) ⌝ }
     ensures { λ r. ⌜ r ≡ soundTo unit top (laid runs) (now (elements .entry)) (length (laid runs)) ⌝ }
 {
-    let mut seen = [0u8; SEEN];
     let mut first: usize = 0;
     let mut k: usize = 0;
     while k < 4 {
         let r = runs[k];
         let end = first + (r.count as usize);
-        if !run_sound(runs, unit, top, r.kind, first, end, elements, &mut seen) {
+        if !run_sound(runs, unit, top, r.kind, first, end, elements, seen) {
             return false;
         }
         first = end;
         k += 1;
     }
     true
+}
+
+// Few volumes: only few marks are cleared.
+fn few_sound(runs: [Range; 4], unit: u8, top: usize, elements: &[u8]) -> bool
+    requires { ⌜ top < 64 ⌝ }
+    requires { ⌜ length (now elements) ≡ elementSize * length (laid runs) ⌝ }
+    ensures { λ r. ⌜ r ≡ soundTo unit top (laid runs) (now (elements .entry)) (length (laid runs)) ⌝ }
+{
+    let mut seen = [0u8; FEW];
+    places_sound(runs, unit, top, elements, &mut seen)
+}
+
+// As many volumes as there may be.
+fn many_sound(runs: [Range; 4], unit: u8, top: usize, elements: &[u8]) -> bool
+    requires { ⌜ top ≤ 512 ⌝ }
+    requires { ⌜ length (now elements) ≡ elementSize * length (laid runs) ⌝ }
+    ensures { λ r. ⌜ r ≡ soundTo unit top (laid runs) (now (elements .entry)) (length (laid runs)) ⌝ }
+{
+    let mut seen = [0u8; SEEN];
+    places_sound(runs, unit, top, elements, &mut seen)
 }
 
 // The elements of the runs, where the unit's holder and the last volume number are these.
@@ -179,5 +201,8 @@ pub fn elements_sound(runs: [Range; 4], unit: u8, top: usize, elements: &[u8]) -
     if elements.len() != layout::ELEMENT_SIZE * tables::total(runs) {
         return false;
     }
-    places_sound(runs, unit, top, elements)
+    if top < FEW {
+        return few_sound(runs, unit, top, elements);
+    }
+    many_sound(runs, unit, top, elements)
 }

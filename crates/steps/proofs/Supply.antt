@@ -8,6 +8,7 @@ use lib.ListN.{length}
 use Rattle.rules.specs.Tables.{Rest, lent, headSize, elementSize}
 use Rattle.rules.specs.Roster.{roster}
 use Rattle.rules.specs.Sound.{sound}
+use Rattle.rules.proofs.Places.{roster-length}
 use Rattle.rules.proofs.Soundness.{sound-true, elements-length, places-is}
 use Rattle.tables.specs.declared.Range.{Range}
 use Rattle.tables.specs.Ranges.{Runs}
@@ -26,6 +27,7 @@ module _ (head elements : List ℕ) (rest : Rest) (s : sound (lent head elements
       let f = sound-true (lent head elements rest) s in
       record {
         records = records;
+        few = omega (arith, roster-length head, f .head-fits .elements-most);
         ready-to-move = record { head-length = head-room; runs-are = is; records = sym (places-is (lent head elements rest) f) };
         ready-to-list = λ host block known long. readable (lent head elements rest) runs host block s is known long;
       }

@@ -1,33 +1,32 @@
--- What the answer of a look-up tells: for callers, and the turns of the search. Assumes nothing.
-use Prim.Native.Nat.{ℕ, zero, suc, _+_, _*_, _<_, _≤_}
-use native.Mathlib.Nat.{not-suc-le-zero}
-use native.Mathlib.Numerals.{add-one}
+-- What the answer of a look-up tells: for callers. Assumes nothing.
+use Prim.Native.Nat.{ℕ, _+_, _*_, _<_, _≤_}
 use native.Mathlib.Omega.{arith}
 use mathlib.Core.Path.{_≡_, refl, sym, ap, _∙_}
 use mathlib.Core.Logic.{_≢_}
 use mathlib.Core.Bool.{Bool, true, false, not}
-use mathlib.Core.List.{List, [], _∷_}
-use lib.ListN.{length, drop, drop-of-length-le}
-use lib.Seq.{drop-cons}
+use mathlib.Core.List.{List}
+use lib.ListN.{length}
 use lib.Dec.{eqb, leb, ltb}
-use borrow.Author.Tests.{not-false, eqb-true, eq-eqb, ne-eqb, ltb-true, lt-leb, le-leb, ltb-false}
+use borrow.Author.Tests.{eqb-true, ltb-true, lt-leb, le-leb, ltb-false}
 use Rattle.rules.specs.Choice.{when, differ}
 use Rattle.rules.specs.Tables.{Tables, elementSize, elementAt, places}
-use Rattle.rules.specs.Roster.{Slot, roster, kindAt, kindOf, placeOf, transport, port}
+use Rattle.rules.specs.Roster.{Slot, roster, kindOf, placeOf, transport, port}
 use Rattle.rules.specs.Moves.{noTransport, noPlace}
 use Rattle.rules.specs.Events.{noPort}
 use Rattle.rules.specs.Holds.{unknown, address}
 use Rattle.rules.proofs.Ladder.{differ-true}
 use Rattle.rules.proofs.Places.{place-in}
-use Rattle.tables.specs.declared.Range.{Range as Code}
-use Rattle.tables.specs.declared.Slot.{Slot as Declared}
+use Rattle.tables.specs.declared.Spot.{Spot}
 use Rattle.tables.specs.declared.Types.{Types}
 use Rattle.tables.specs.declared.Types.the-variants.{Any, Transport, Place, Port}
 use Rattle.tables.specs.declared.Found.{Found}
 use Rattle.tables.specs.declared.Found.the-variants.{At, Nothing}
-use Rattle.tables.specs.Ranges.{laid, Typed}
-use Rattle.tables.specs.LookUp.{admits, found, onFound, addressAt, slotAt, noSlot}
-use Rattle.tables.proofs.Roster.{kind-laid}
+use Rattle.tables.specs.LookUp.{admits, found, onFound, spotOf}
+
+-- type and place of the address make the answer
+pub found-spot : (ts : Types) (ss : List Slot) (a : ℕ) (s : Spot) → s ≡ spotOf ss a → (f : Found) → f ≡ when (admits ts (s .kind)) (At (s .place)) Nothing → f ≡ found ts ss a
+unfolding found spotOf
+found-spot ts ss a s is f e = e ∙ rw is
 
 -- ---- by cases on a look-up's answer
 
@@ -53,32 +52,7 @@ found-cases {A} ts ss a k y = go (admits ts (kindOf ss a))
     go true = refl
     go false = refl
 
--- ---- places and types
-
-pub kind-past : (ss : List Slot) (p : ℕ) → length ss ≤ p → kindAt ss p ≡ 0
-unfolding kindAt
-kind-past [] p h = refl
-kind-past (s ∷ ss) zero h = absurd (not-suc-le-zero h)
-kind-past (s ∷ ss) (suc p) h = kind-past ss p (omega arith)
-
-pub kind-place : (ss : List Slot) (a : ℕ) → kindAt ss (placeOf ss a) ≡ kindOf ss a
-unfolding kindAt kindOf placeOf when
-kind-place [] a = refl
-kind-place (s ∷ ss) a = go (eqb (s .address) a) (kind-place ss a)
-  where
-    go : (b : Bool) → kindAt ss (placeOf ss a) ≡ kindOf ss a
-        → kindAt (s ∷ ss) (when b 0 (suc (placeOf ss a))) ≡ when b (s .kind) (kindOf ss a)
-    go true ih = refl
-    go false ih = ih
-
-pub place-most : (ss : List Slot) (a : ℕ) → placeOf ss a ≤ length ss
-unfolding placeOf when
-place-most [] a = omega arith
-place-most (s ∷ ss) a = go (eqb (s .address) a) (place-most ss a)
-  where
-    go : (b : Bool) → placeOf ss a ≤ length ss → when b 0 (suc (placeOf ss a)) ≤ suc (length ss)
-    go true h = omega arith
-    go false h = omega arith
+-- ---- types
 
 -- what is looked for has a type
 admits-some : (ts : Types) (k : ℕ) → admits ts k ≡ true → k ≢ 0
@@ -87,13 +61,6 @@ admits-some Any k e = differ-true k 0 e
 admits-some Transport k e = λ z. omega (arith, eqb-true k transport e)
 admits-some Place k e = λ z. omega (arith, ltb-true transport k e)
 admits-some Port k e = λ z. omega (arith, eqb-true k port e)
-
-admits-none : (ts : Types) → admits ts 0 ≡ false
-unfolding admits differ
-admits-none Any = refl
-admits-none Transport = refl
-admits-none Place = refl
-admits-none Port = refl
 
 -- ---- what callers learn: the answer f of a look-up of the address a
 
@@ -132,20 +99,6 @@ module _ (ts : Types) (ss : List Slot) (a : ℕ) (f : Found) (is : f ≡ found t
       go true t = let z : Nothing ≡ At (placeOf ss a) = sym e ∙ is ∙ rw t in let y : _≡_ {A = ℕ} 0 1 = cc in absurd (let w : ⊥ = omega arith in w)
       go false t = refl
 
--- the place of an address that is no element's of the runs is their number
-pub nothing-place : (runs : List Code) (a : ℕ) (f : Found) → Typed runs → f ≡ found Any (laid runs) a → f ≡ Nothing → length (laid runs) ≡ placeOf (laid runs) a
-unfolding admits differ
-nothing-place runs a f ts is e = go (ltb (placeOf ss a) (length ss)) refl
-  where
-    ss : List Slot
-    ss = laid runs
-
-    go : (b : Bool) → ltb (placeOf ss a) (length ss) ≡ b → length ss ≡ placeOf ss a
-    go true t =
-        let k : kindOf ss a ≡ 0 = eqb-true (kindOf ss a) 0 (not-false _ (nothing-admits Any ss a f is e)) in
-        absurd (let w : ⊥ = omega (arith, kind-laid runs (placeOf ss a) ts (ltb-true _ _ t), kind-place ss a) in w)
-    go false t = omega (arith, ltb-false (placeOf ss a) (length ss) t, place-most ss a)
-
 -- ---- the rules' tests ask the same
 
 pub no-transport-is : (t : Tables) (a : ℕ) → noTransport t a ≡ not (admits Transport (kindOf (roster (t .head)) a))
@@ -179,40 +132,3 @@ module _ (ts : Types) (ss : List Slot) (a : ℕ) (b : Bool) (asks : b ≡ not (a
 
   pub fails : f ≡ Nothing → b ≡ true
   fails e = asks ∙ ap not (nothing-admits ts ss a f is e)
-
--- ---- the turns of the search: the first p places are passed
-
-pub record Searching (ss : List Slot) (a p : ℕ) : Type 0 where
-  pub far : p ≤ length ss
-  pub place : placeOf ss a ≡ p + placeOf (drop p ss) a
-  pub kind : kindOf ss a ≡ kindOf (drop p ss) a
-
-pub search-begins : (ss : List Slot) (a : ℕ) → Searching ss a 0
-search-begins ss a = record { far = omega arith; place = omega arith; kind = refl }
-
-module _ (ss : List Slot) (a p : ℕ) (at : Searching ss a p) where
-  module _ (s : Declared) (is : s ≡ slotAt ss p) (h : p < length ss) where
-    here : s .address ≡ addressAt ss p
-    unfolding slotAt
-    here = ap (λ (x : Declared). x .address) is
-
-    pub search-hits : s .address ≡ a → (ts : Types) (f : Found) → f ≡ when (admits ts (s .kind)) (At p) Nothing → f ≡ found ts ss a
-    unfolding found placeOf addressAt slotAt when
-    search-hits t ts f w =
-        let e : placeOf ss a ≡ p + 0 = at .place ∙ rw (drop-cons ss p noSlot h, eq-eqb (addressAt ss p) a (sym here ∙ t)) in
-        let d : placeOf ss a ≡ p = omega arith in
-        let k : s .kind ≡ kindOf ss a = ap (λ (x : Declared). x .kind) is ∙ rw (← d) (kind-place ss a) in
-        w ∙ rw (k, d)
-
-    pub search-on : (s .address ≡ a → ⊥) → Searching ss a (p + 1)
-    unfolding placeOf kindOf addressAt when
-    search-on t =
-        let n = ne-eqb (addressAt ss p) a (λ q. t (here ∙ q)) in
-        let e : placeOf ss a ≡ p + suc (placeOf (drop (suc p) ss) a) = at .place ∙ rw (drop-cons ss p noSlot h, n) in
-        record { far = omega arith; place = rw add-one (omega arith); kind = rw add-one (at .kind ∙ rw (drop-cons ss p noSlot h, n)) }
-
-  pub search-ends : length ss ≤ p → (ts : Types) → Nothing ≡ found ts ss a
-  unfolding found kindOf when
-  search-ends h ts =
-      let e : kindOf ss a ≡ 0 = at .kind ∙ rw (drop-of-length-le ss h) in
-      rw (e, admits-none ts)

@@ -1,23 +1,21 @@
--- The elements of the runs: how many they are, what stands at a place, which types they have. Assumes nothing.
+-- The elements of the runs: how many they are, and of which type each is. Assumes nothing.
 use Prim.Native.Nat.{ℕ, zero, suc, _+_, _-_, _<_, _≤_}
 use native.Mathlib.Nat.{not-suc-le-zero}
 use native.Mathlib.Numerals.{add-one}
 use native.Mathlib.Omega.{arith}
-use mathlib.Core.Path.{_≡_, refl, sym, ap, _∙_}
+use mathlib.Core.Path.{_≡_, refl, sym, _∙_}
 use mathlib.Core.Bool.{Bool, true, false}
 use mathlib.Core.List.{List, [], _∷_, _++_}
 use lib.ListN.{length, getD, drop}
-use lib.Dec.{eqb, leb, ltb}
-use borrow.Author.Tests.{ltb-true, ltb-false, lt-ltb, le-ltb, eq-eqb, ne-eqb}
+use lib.Dec.{eqb, ltb}
+use borrow.Author.Tests.{ltb-true, ltb-false, eq-eqb, ne-eqb}
 use Rattle.rules.specs.Choice.{when, allOf, differ}
 use Rattle.rules.specs.Ranges.{total}
 use Rattle.rules.proofs.Places.{spread-length}
 use Rattle.rules.proofs.Ladder.{ne-differ, test-is}
-use Rattle.rules.specs.Roster.{Range, Slot, range, ranges, slots, spread, insert, sorted, roster, kindAt, firstTransport, transport}
+use Rattle.rules.specs.Roster.{Range, Slot, range, slots, spread, roster, kindAt, firstTransport, transport}
 use Rattle.tables.specs.declared.Range.{Range as Code}
-use Rattle.tables.specs.declared.Slot.{Slot as Declared}
-use Rattle.tables.specs.Ranges.{meaning, meant, laid, leads, Runs, Kinds, Typed}
-use Rattle.tables.specs.LookUp.{slotAt, addressAt}
+use Rattle.tables.specs.Ranges.{meaning, meant, laid, leads, Runs}
 use Rattle.tables.proofs.Sort.{none, on-four, meant-from, meant-end}
 
 -- the runs of a head's table make its roster
@@ -39,104 +37,39 @@ total-is runs e =
     (λ (l : List Code). getD l 0 none .count + getD l 1 none .count + getD l 2 none .count + getD l 3 none .count ≡ length (laid l))
     runs e (λ a b c d. omega (arith, laid-length (a ∷ b ∷ c ∷ d ∷ [])))
 
--- ---- what stands at a place, range after range
+-- ---- the type of the element at a place, range after range
 
-unfoldable pub walk : List Range → ℕ → Declared
-walk [] p = record { kind = 0; address = 0 }
-walk (r ∷ rs) p = when (ltb p (r .count)) (record { kind = r .kind; address = r .first + p }) (walk rs (p - r .count))
+unfoldable pub walk : List Range → ℕ → ℕ
+walk [] p = 0
+walk (r ∷ rs) p = when (ltb p (r .count)) (r .kind) (walk rs (p - r .count))
 
-slots-here : (n k f q p : ℕ) (rest : List Slot) → p < n → slotAt (slots k f q n ++ rest) p ≡ record { kind = k; address = f + p }
-unfolding slots slotAt addressAt kindAt
+slots-here : (n k f q p : ℕ) (rest : List Slot) → p < n → kindAt (slots k f q n ++ rest) p ≡ k
+unfolding slots kindAt
 slots-here zero k f q p rest h = absurd (not-suc-le-zero h)
-slots-here (suc n) k f q zero rest h = let e : f ≡ f + 0 = omega arith in cc
-slots-here (suc n) k f q (suc p) rest h =
-    let e : suc f + p ≡ f + suc p = omega arith in
-    rw (← e) (slots-here n k (suc f) (suc q) p rest (omega arith))
+slots-here (suc n) k f q zero rest h = refl
+slots-here (suc n) k f q (suc p) rest h = slots-here n k (suc f) (suc q) p rest (omega arith)
 
-slots-past : (n k f q p : ℕ) (rest : List Slot) → n ≤ p → slotAt (slots k f q n ++ rest) p ≡ slotAt rest (p - n)
-unfolding slots slotAt addressAt kindAt
+slots-past : (n k f q p : ℕ) (rest : List Slot) → n ≤ p → kindAt (slots k f q n ++ rest) p ≡ kindAt rest (p - n)
+unfolding slots kindAt
 slots-past zero k f q p rest h = let e : p - 0 ≡ p = omega arith in rw e
 slots-past (suc n) k f q zero rest h = absurd (not-suc-le-zero h)
 slots-past (suc n) k f q (suc p) rest h =
     let e : suc p - suc n ≡ p - n = omega arith in
     rw e (slots-past n k (suc f) (suc q) p rest (omega arith))
 
-walk-is : (rs : List Range) (q p : ℕ) → slotAt (spread q rs) p ≡ walk rs p
-unfolding walk spread when slotAt kindAt addressAt
+walk-is : (rs : List Range) (q p : ℕ) → kindAt (spread q rs) p ≡ walk rs p
+unfolding walk spread when kindAt
 walk-is [] q p = refl
 walk-is (r ∷ rs) q p = go (walk-is rs (q + r .count) (p - r .count)) (ltb p (r .count)) refl
   where
-    go : slotAt (spread (q + r .count) rs) (p - r .count) ≡ walk rs (p - r .count) → (b : Bool) → ltb p (r .count) ≡ b
-        → slotAt (spread q (r ∷ rs)) p ≡ when b (record { kind = r .kind; address = r .first + p }) (walk rs (p - r .count))
+    go : kindAt (spread (q + r .count) rs) (p - r .count) ≡ walk rs (p - r .count) → (b : Bool) → ltb p (r .count) ≡ b
+        → kindAt (spread q (r ∷ rs)) p ≡ when b (r .kind) (walk rs (p - r .count))
     go ih true t = slots-here (r .count) (r .kind) (r .first) q p (spread (q + r .count) rs) (ltb-true p (r .count) t)
     go ih false t = slots-past (r .count) (r .kind) (r .first) q p (spread (q + r .count) rs) (ltb-false p (r .count) t) ∙ ih
 
-pub laid-at : (runs : List Code) (p : ℕ) → slotAt (laid runs) p ≡ walk (meant runs) p
+pub laid-at : (runs : List Code) (p : ℕ) → kindAt (laid runs) p ≡ walk (meant runs) p
 unfolding laid
 laid-at runs p = walk-is (meant runs) 0 p
-
--- the turns of the loop that walks the runs: the first k are passed, and `left` of the place is left
-pub record Walking (rs : List Code) (place left k : ℕ) : Type 0 where
-  pub far : k ≤ 4
-  pub rest : slotAt (laid rs) place ≡ walk (drop k (meant rs)) left
-
-pub walk-begins : (rs : List Code) (place : ℕ) → Walking rs place place 0
-walk-begins rs place = record { far = omega arith; rest = laid-at rs place }
-
-module _ (rs : List Code) (four : length rs ≡ 4) (place left k : ℕ) (at : Walking rs place left k) where
-  pub walk-here : k < 4 → left < getD rs k none .count
-      → record { kind = getD rs k none .kind; address = getD rs k none .first + left } ≡ slotAt (laid rs) place
-  unfolding walk when
-  walk-here h t = rw (at .rest, meant-from rs k four h, lt-ltb left (getD rs k none .count) t)
-
-  pub walk-on : k < 4 → getD rs k none .count ≤ left → Walking rs place (left - getD rs k none .count) (k + 1)
-  unfolding walk when
-  walk-on h t =
-      record { far = omega arith; rest = rw (at .rest, meant-from rs k four h, le-ltb left (getD rs k none .count) t, add-one) }
-
-  pub walk-ends : 4 ≤ k → record { kind = 0; address = 0 } ≡ slotAt (laid rs) place
-  unfolding walk
-  walk-ends h = rw (at .rest, meant-end rs k four h)
-
--- ---- the types
-
-module _ (P : ℕ → Type 0) where
-  insert-kinds : (r : Range) (rs : List Range) → P (r .kind) → Kinds P rs → Kinds P (insert r rs)
-  unfolding Kinds insert when
-  insert-kinds r [] p ps = (p, tt)
-  insert-kinds r (s ∷ rs) p ps = go (leb (r .first) (s .first)) (insert-kinds r rs p (ps .1))
-    where
-      go : (b : Bool) → Kinds P (insert r rs) → Kinds P (when b (r ∷ s ∷ rs) (s ∷ insert r rs))
-      go true ih = (p, ps)
-      go false ih = (ps .0, ih)
-
-  sorted-kinds : (rs : List Range) → Kinds P rs → Kinds P (sorted rs)
-  unfolding Kinds sorted
-  sorted-kinds [] ps = tt
-  sorted-kinds (r ∷ rs) ps = insert-kinds r (sorted rs) (ps .0) (sorted-kinds rs (ps .1))
-
-  walk-kinds : (rs : List Range) (p : ℕ) → Kinds P rs → p < total rs → P (walk rs p .kind)
-  unfolding Kinds total walk when
-  walk-kinds [] p ps h = absurd (not-suc-le-zero h)
-  walk-kinds (r ∷ rs) p ps h = go (ltb p (r .count)) refl (λ l. walk-kinds rs (p - r .count) (ps .1) (omega arith))
-    where
-      go : (b : Bool) → ltb p (r .count) ≡ b → (r .count ≤ p → P (walk rs (p - r .count) .kind))
-          → P (when b (record { kind = r .kind; address = r .first + p }) (walk rs (p - r .count)) .kind)
-      go true t ih = ps .0
-      go false t ih = ih (ltb-false p (r .count) t)
-
--- the runs of a head's table have types
-pub runs-typed : (runs : List Code) (head : List ℕ) → Runs runs head → Typed runs
-unfolding Kinds ranges range
-runs-typed runs head e =
-    rw e (sorted-kinds (λ k. 1 ≤ k) (ranges head) (omega arith, (omega arith, (omega arith, (omega arith, tt)))))
-
--- and so has each of their elements
-pub kind-laid : (runs : List Code) (p : ℕ) → Typed runs → p < length (laid runs) → 1 ≤ kindAt (laid runs) p
-unfolding slotAt
-kind-laid runs p ts h =
-    let e : kindAt (laid runs) p ≡ walk (meant runs) p .kind = ap (λ (s : Declared). s .kind) (laid-at runs p) in
-    rw e (walk-kinds (λ k. 1 ≤ k) (meant runs) p ts (omega (arith, laid-length runs)))
 
 -- ---- "the lowest-addressed" transport: the first of the first run that holds transports
 

@@ -1,11 +1,10 @@
 -- The ranges put in order by first address, one after the other. Assumes nothing.
-use Prim.Native.Nat.{ℕ, zero, suc, _+_, _<_, _≤_}
-use native.Mathlib.Numerals.{add-one}
+use Prim.Native.Nat.{ℕ, zero, suc, _<_, _≤_}
 use native.Mathlib.Omega.{arith}
-use mathlib.Core.Path.{_≡_, refl, sym, ap, _∙_}
-use mathlib.Core.List.{List, [], _∷_, _++_}
-use lib.ListN.{length, getD, set, take, length-set, drop, length-map, drop-of-length-le}
-use lib.Seq.{take-suc-set, drop-set-lt, drop-cons, set-split, append-snoc}
+use mathlib.Core.Path.{_≡_, refl, ap, _∙_}
+use mathlib.Core.List.{List, [], _∷_}
+use lib.ListN.{length, getD, drop, length-map, drop-of-length-le}
+use lib.Seq.{drop-cons}
 use borrow.Author.Tests.{le-leb, lt-leb}
 use Rattle.rules.specs.Choice.{when}
 use Rattle.rules.specs.Roster.{Range, insert, sorted}
@@ -23,12 +22,6 @@ unfolding meant
 meant-at [] i d h = absurd (let z : ⊥ = omega arith in z)
 meant-at (r ∷ rs) zero d h = refl
 meant-at (r ∷ rs) (suc i) d h = meant-at rs i d (omega arith)
-
-pub meant-set : (rs : List Declared) (i : ℕ) (r : Declared) → meant (set rs i r) ≡ set (meant rs) i (meaning r)
-unfolding meant
-meant-set [] i r = refl
-meant-set (s ∷ rs) zero r = refl
-meant-set (s ∷ rs) (suc i) r = ap (λ (l : List Range). meaning s ∷ l) (meant-set rs i r)
 
 -- what an index past the end reads
 abbrev pub none : Declared
@@ -56,25 +49,6 @@ pub insert-past : (r s : Range) (ss : List Range) → s .first < r .first → in
 unfolding insert when
 insert-past r s ss h = rw (lt-leb (r .first) (s .first) h)
 
--- The range r stands at none of the places of l; what it is to make of them when it has passed the first i.
-module _ (l w : List Range) (i : ℕ) (r s : Range) (is : w ≡ take i l ++ insert r (drop (suc i) l)) where
-  pub passed : suc i < length l → getD l (suc i) noRange ≡ s → s .first < r .first
-      → w ≡ take (suc i) (set l i s) ++ insert r (drop (suc (suc i)) (set l i s))
-  passed h e t =
-      is
-      ∙ rw (drop-cons l (suc i) noRange h, e, insert-past r s (drop (suc (suc i)) l) t, take-suc-set l i s (omega arith), drop-set-lt (suc (suc i)) l i s (omega arith))
-      (sym (append-snoc (take i l) s (insert r (drop (suc (suc i)) l))))
-
-  pub placed : suc i < length l → getD l (suc i) noRange ≡ s → r .first ≤ s .first → set l i r ≡ w
-  placed h e t =
-      rw (set-split l i r (omega arith), is, drop-cons l (suc i) noRange h, e, insert-here r s (drop (suc (suc i)) l) t)
-
-  pub placed-last : i < length l → length l ≤ suc i → set l i r ≡ w
-  unfolding insert
-  placed-last h t =
-      let e : drop (suc i) l ≡ [] = drop-of-length-le l t in
-      rw (set-split l i r h, is, e)
-
 -- what holds of every list of four holds of a list that is four long
 pub on-four : {A : Type 0} (P : List A → Type 0) (l : List A) → length l ≡ 4 → ((a b c d : A) → P (a ∷ b ∷ c ∷ d ∷ [])) → P l
 on-four P [] e f = absurd (let z : ⊥ = omega arith in z)
@@ -84,46 +58,72 @@ on-four P (a ∷ b ∷ c ∷ []) e f = absurd (let z : ⊥ = omega arith in z)
 on-four P (a ∷ b ∷ c ∷ d ∷ []) e f = f a b c d
 on-four P (a ∷ b ∷ c ∷ d ∷ x ∷ xs) e f = absurd (let z : ⊥ = omega arith in z)
 
--- ---- the turns of the loop that inserts the range at k
+pub insert-alone : (r : Range) → insert r [] ≡ r ∷ []
+unfolding insert
+insert-alone r = refl
 
-pub record Inserting (k : ℕ) (rs : List Declared) (r : Declared) (out : List Declared) (i : ℕ) : Type 0 where
-  pub far : i ≤ 3
-  pub four : length out ≡ 4
-  pub to-be : inserted k (meant rs) ≡ take i (meant out) ++ insert (meaning r) (drop (suc i) (meant out))
+-- ---- one range put to its place, by every way that the tests can go
 
-module _ (k : ℕ) (rs : List Declared) where
-  pub begins : length rs ≡ 4 → k < 4 → Inserting k rs (getD rs k none) rs k
-  unfolding inserted
-  begins e h = record { far = omega arith; four = e; to-be = rw (meant-at rs k none (omega arith)) }
+module _ (rs : List Declared) (long : length rs ≡ 4) where
+  abbrev a : Declared
+  a = getD rs 0 none
 
-  module _ (r : Declared) (out : List Declared) (i : ℕ) (s : Inserting k rs r out i) where
-    next : i < 3 → suc i < length (meant out)
-    next h = omega (arith, meant-length out, s .four)
+  abbrev b : Declared
+  b = getD rs 1 none
 
-    seen : i < 3 → getD (meant out) (suc i) noRange ≡ meaning (getD out (i + 1) none)
-    seen h = rw add-one (meant-at out (suc i) none (omega (arith, s .four)))
+  abbrev c : Declared
+  c = getD rs 2 none
 
-    onward : i < 3 → (x : Declared) → getD (meant out) (suc i) noRange ≡ meaning x → x .first < r .first → Inserting k rs r (set out i x) (i + 1)
-    onward h x e t =
-        record {
-          far = omega arith;
-          four = length-set out i x ∙ s .four;
-          to-be = rw (meant-set out i x, add-one) (passed (meant out) (inserted k (meant rs)) i (meaning r) (meaning x) (s .to-be) (next h) e t);
-        }
+  abbrev d : Declared
+  d = getD rs 3 none
 
-    pub goes-on : i < 3 → getD out (i + 1) none .first < r .first → Inserting k rs r (set out i (getD out (i + 1) none)) (i + 1)
-    goes-on h t = onward h (getD out (i + 1) none) (seen h) t
+  third-is : inserted 2 (meant rs) ≡ meaning a ∷ meaning b ∷ insert (meaning c) (meaning d ∷ [])
+  unfolding meant inserted
+  third-is = on-four (λ (l : List Declared). inserted 2 (meant l) ≡ meaning (getD l 0 none) ∷ meaning (getD l 1 none) ∷ insert (meaning (getD l 2 none)) (meaning (getD l 3 none) ∷ [])) rs long (λ a b c d. refl)
 
-    pub stops : i < 3 → r .first ≤ getD out (i + 1) none .first → meant (set out i r) ≡ inserted k (meant rs)
-    stops h t =
-        rw (meant-set out i r)
-        (placed (meant out) (inserted k (meant rs)) i (meaning r) (meaning (getD out (i + 1) none)) (s .to-be) (next h) (seen h) t)
+  second-is : inserted 1 (meant rs) ≡ meaning a ∷ insert (meaning b) (meaning c ∷ meaning d ∷ [])
+  unfolding meant inserted
+  second-is = on-four (λ (l : List Declared). inserted 1 (meant l) ≡ meaning (getD l 0 none) ∷ insert (meaning (getD l 1 none)) (meaning (getD l 2 none) ∷ meaning (getD l 3 none) ∷ [])) rs long (λ a b c d. refl)
 
-    pub ends : 3 ≤ i → meant (set out i r) ≡ inserted k (meant rs)
-    ends h =
-        let e = meant-length out in
-        rw (meant-set out i r)
-        (placed-last (meant out) (inserted k (meant rs)) i (meaning r) noRange (s .to-be) (omega (arith, s .four, s .far)) (omega (arith, s .four)))
+  first-is : inserted 0 (meant rs) ≡ insert (meaning a) (meaning b ∷ meaning c ∷ meaning d ∷ [])
+  unfolding meant inserted
+  first-is = on-four (λ (l : List Declared). inserted 0 (meant l) ≡ insert (meaning (getD l 0 none)) (meaning (getD l 1 none) ∷ meaning (getD l 2 none) ∷ meaning (getD l 3 none) ∷ [])) rs long (λ a b c d. refl)
+
+  pub third-first : c .first ≤ d .first → meant (a ∷ b ∷ c ∷ d ∷ []) ≡ inserted 2 (meant rs)
+  unfolding meant
+  third-first h0 = rw (third-is, insert-here (meaning c) (meaning d) [] h0)
+
+  pub third-second : d .first < c .first → meant (a ∷ b ∷ d ∷ c ∷ []) ≡ inserted 2 (meant rs)
+  unfolding meant
+  third-second h0 = rw (third-is, insert-past (meaning c) (meaning d) [] h0, insert-alone (meaning c))
+
+  pub second-first : b .first ≤ c .first → meant (a ∷ b ∷ c ∷ d ∷ []) ≡ inserted 1 (meant rs)
+  unfolding meant
+  second-first h0 = rw (second-is, insert-here (meaning b) (meaning c) (meaning d ∷ []) h0)
+
+  pub second-second : c .first < b .first → b .first ≤ d .first → meant (a ∷ c ∷ b ∷ d ∷ []) ≡ inserted 1 (meant rs)
+  unfolding meant
+  second-second h0 h1 = rw (second-is, insert-past (meaning b) (meaning c) (meaning d ∷ []) h0, insert-here (meaning b) (meaning d) [] h1)
+
+  pub second-third : c .first < b .first → d .first < b .first → meant (a ∷ c ∷ d ∷ b ∷ []) ≡ inserted 1 (meant rs)
+  unfolding meant
+  second-third h0 h1 = rw (second-is, insert-past (meaning b) (meaning c) (meaning d ∷ []) h0, insert-past (meaning b) (meaning d) [] h1, insert-alone (meaning b))
+
+  pub first-first : a .first ≤ b .first → meant (a ∷ b ∷ c ∷ d ∷ []) ≡ inserted 0 (meant rs)
+  unfolding meant
+  first-first h0 = rw (first-is, insert-here (meaning a) (meaning b) (meaning c ∷ meaning d ∷ []) h0)
+
+  pub first-second : b .first < a .first → a .first ≤ c .first → meant (b ∷ a ∷ c ∷ d ∷ []) ≡ inserted 0 (meant rs)
+  unfolding meant
+  first-second h0 h1 = rw (first-is, insert-past (meaning a) (meaning b) (meaning c ∷ meaning d ∷ []) h0, insert-here (meaning a) (meaning c) (meaning d ∷ []) h1)
+
+  pub first-third : b .first < a .first → c .first < a .first → a .first ≤ d .first → meant (b ∷ c ∷ a ∷ d ∷ []) ≡ inserted 0 (meant rs)
+  unfolding meant
+  first-third h0 h1 h2 = rw (first-is, insert-past (meaning a) (meaning b) (meaning c ∷ meaning d ∷ []) h0, insert-past (meaning a) (meaning c) (meaning d ∷ []) h1, insert-here (meaning a) (meaning d) [] h2)
+
+  pub first-fourth : b .first < a .first → c .first < a .first → d .first < a .first → meant (b ∷ c ∷ d ∷ a ∷ []) ≡ inserted 0 (meant rs)
+  unfolding meant
+  first-fourth h0 h1 h2 = rw (first-is, insert-past (meaning a) (meaning b) (meaning c ∷ meaning d ∷ []) h0, insert-past (meaning a) (meaning c) (meaning d ∷ []) h1, insert-past (meaning a) (meaning d) [] h2, insert-alone (meaning a))
 
 -- three insertions put four in order
 pub sorted-four : (l : List Range) → length l ≡ 4 → inserted 0 (inserted 1 (inserted 2 l)) ≡ sorted l

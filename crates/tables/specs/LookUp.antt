@@ -2,11 +2,9 @@
 use Prim.Native.Nat.{ℕ}
 use mathlib.Core.List.{List}
 use mathlib.Core.Bool.{Bool}
-use lib.ListN.{getD}
 use lib.Dec.{eqb, ltb}
 use Rattle.rules.specs.Choice.{when, differ}
-use Rattle.rules.specs.Roster.{Slot, placeOf, kindAt, kindOf, transport, port}
-use Rattle.tables.specs.declared.Slot.{Slot as Declared}
+use Rattle.rules.specs.Roster.{Slot, placeOf, kindOf, transport, port}
 use Rattle.tables.specs.declared.Spot.{Spot}
 use Rattle.tables.specs.declared.Types.{Types}
 use Rattle.tables.specs.declared.Types.the-variants.{Any, Transport, Place, Port}
@@ -32,14 +30,3 @@ spotOf ss a = record { kind = kindOf ss a; place = placeOf ss a }
 unfoldable pub onFound : {A : Type 0} → Found → (ℕ → A) → A → A
 onFound (At p) f y = f p
 onFound Nothing f y = y
-
-abbrev pub noSlot : Slot
-noSlot = record { kind = 0; address = 0; place = 0 }
-
--- the address of the element at a place; 0 where there is none
-unfoldable pub addressAt : List Slot → ℕ → ℕ
-addressAt ss p = getD ss p noSlot .address
-
--- type and address of the element at a place
-unfoldable pub slotAt : List Slot → ℕ → Declared
-slotAt ss p = record { kind = kindAt ss p; address = addressAt ss p }

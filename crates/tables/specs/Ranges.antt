@@ -1,5 +1,5 @@
 -- What the code's ranges stand for: those of the rules, and the elements that they make. Assumes nothing.
-use Prim.Native.Nat.{ℕ, suc, _≤_}
+use Prim.Native.Nat.{ℕ, suc}
 use mathlib.Core.Path.{_≡_}
 use mathlib.Core.List.{List, [], _∷_, map, _++_}
 use mathlib.Core.Bool.{Bool}
@@ -39,12 +39,3 @@ lies r a = allOf (leb (r .first) a ∷ ltb a (behind r) ∷ [])
 -- the range holds transports
 unfoldable pub leads : Range → Bool
 leads r = allOf (eqb (r .kind) transport ∷ differ (r .count) 0 ∷ [])
-
--- a property of the type of each range
-unfoldable pub Kinds : (ℕ → Type 0) → List Range → Type 0
-Kinds P [] = Unit {0}
-Kinds P (r ∷ rs) = P (r .kind) × Kinds P rs
-
--- each of the runs has a type
-abbrev pub Typed : List Declared → Type 0
-Typed runs = Kinds (λ k. 1 ≤ k) (meant runs)

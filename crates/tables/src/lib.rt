@@ -11,19 +11,13 @@ ghost use Rattle.rules.specs.Choice.{when};
 ghost use Rattle.rules.specs.Tables.{headSize, volumes as volumesOf};
 ghost use Rattle.rules.specs.Roster.{range, ranges as rangesOf, sorted as sortedOf, kindOf, firstTransport};
 ghost use Rattle.tables.specs.Ranges.{meaning, meant, laid, inserted, lies, leads, Runs};
-ghost use Rattle.tables.specs.LookUp.{admits, found, slotAt, spotOf};
+ghost use Rattle.tables.specs.LookUp.{admits, found, spotOf};
 
 // "each first address and count": of one type
 pub struct Range {
     pub kind: u8,
     pub first: u16,
     pub count: u16,
-}
-
-// An element's type and address.
-pub struct Slot {
-    pub kind: u8,
-    pub address: u32,
 }
 
 // An element's type and place.
@@ -72,32 +66,63 @@ pub fn ranges(head: &[u8]) -> [Range; 4]
     ]
 }
 
-// The range at k goes to its place among those behind it, which are in order.
-fn insert_at(rs: [Range; 4], k: usize) -> [Range; 4]
-    requires { ⌜ k < 4 ⌝ }
-    ensures { λ r. ⌜ meant r ≡ inserted k (meant rs) ⌝ }
+// The third range goes to its place, before or behind the fourth. Every index is a plain number, here and in the two functions below: the ranges then stay in
+// registers and are not written to a table and read back.
+fn insert_third(rs: [Range; 4]) -> [Range; 4]
+    ensures { λ r. ⌜ meant r ≡ inserted 2 (meant rs) ⌝ }
 {
-    let mut out = rs;
-    let r = rs[k];
-    let mut i = k;
-    while i < 3 {
-        let s = out[i + 1];
-        if r.first <= s.first {
-            out[i] = r;
-            return out;
-        }
-        out[i] = s;
-        i += 1;
+    let a = rs[0];
+    let b = rs[1];
+    let c = rs[2];
+    let d = rs[3];
+    if c.first <= d.first {
+        return [a, b, c, d];
     }
-    out[i] = r;
-    out
+    [a, b, d, c]
+}
+
+// The second goes to its place among the last two, which are in order.
+fn insert_second(rs: [Range; 4]) -> [Range; 4]
+    ensures { λ r. ⌜ meant r ≡ inserted 1 (meant rs) ⌝ }
+{
+    let a = rs[0];
+    let b = rs[1];
+    let c = rs[2];
+    let d = rs[3];
+    if b.first <= c.first {
+        return [a, b, c, d];
+    }
+    if b.first <= d.first {
+        return [a, c, b, d];
+    }
+    [a, c, d, b]
+}
+
+// The first goes to its place among the last three, which are in order.
+fn insert_first(rs: [Range; 4]) -> [Range; 4]
+    ensures { λ r. ⌜ meant r ≡ inserted 0 (meant rs) ⌝ }
+{
+    let a = rs[0];
+    let b = rs[1];
+    let c = rs[2];
+    let d = rs[3];
+    if a.first <= b.first {
+        return [a, b, c, d];
+    }
+    if a.first <= c.first {
+        return [b, a, c, d];
+    }
+    if a.first <= d.first {
+        return [b, c, a, d];
+    }
+    [b, c, d, a]
 }
 
 // The ranges by first address: the runs of the element table.
 pub fn sorted(rs: [Range; 4]) -> [Range; 4]
     ensures { λ r. ⌜ meant r ≡ sortedOf (meant rs) ⌝ }
 {
-    insert_at(insert_at(insert_at(rs, 2), 1), 0)
+    insert_first(insert_second(insert_third(rs)))
 }
 
 // The runs of the head's ranges.
@@ -118,30 +143,6 @@ pub fn total(runs: [Range; 4]) -> usize
     let c = runs[2];
     let d = runs[3];
     (a.count as usize) + (b.count as usize) + (c.count as usize) + (d.count as usize)
-}
-
-// The element at a place of the runs; type 0 where there is none.
-fn slot_in(runs: [Range; 4], place: usize) -> Slot
-    ensures { λ r. ⌜ r ≡ slotAt (laid runs) place ⌝ }
-{
-    let mut left = place;
-    let mut k: usize = 0;
-    while k < 4 {
-        let r = runs[k];
-        let count = r.count as usize;
-        if left < count {
-            return Slot {
-                kind: r.kind,
-                address: (r.first as u32) + (left as u32),
-            };
-        }
-        left -= count;
-        k += 1;
-    }
-    Slot {
-        kind: 0,
-        address: 0,
-    }
 }
 
 // An address lies in a range.
@@ -211,20 +212,12 @@ fn pick(types: Types, kind: u8, place: usize) -> Found
     Found::Nothing
 }
 
-// The place of an address, if the element there is of these types: the table is searched once, record by record.
+// The place of an address, if the element there is of these types.
 pub fn find(runs: [Range; 4], address: u32, types: Types) -> Found
     ensures { λ r. ⌜ r ≡ found types (laid runs) address ⌝ }
 {
-    let n = total(runs);
-    let mut p: usize = 0;
-    while p < n {
-        let s = slot_in(runs, p);
-        if s.address == address {
-            return pick(types, s.kind, p);
-        }
-        p += 1;
-    }
-    Found::Nothing
+    let s = spot_of(runs, address);
+    pick(types, s.kind, s.place)
 }
 
 // The range holds transports.

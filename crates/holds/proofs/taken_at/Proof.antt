@@ -1,7 +1,7 @@
 -- `holds::taken_at` meets its contract. Assumes nothing.
 use borrow.Author.Needs.{needs}
 use Rattle.rules.specs.Choice.{differ}
-use Rattle.holds.proofs.Loops.{taken-other, taken-own, taken-not}
+use Rattle.holds.proofs.Turns.{taken-other, taken-own, taken-not}
 use Rattle.holds.proofs.taken_at.Statement.{statement}
 use Rattle.holds.proofs.taken_at.Tie as tie
 

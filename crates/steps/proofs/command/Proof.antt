@@ -48,6 +48,7 @@ reserve-requires c κs =
       head-long = s .suited .ready-to-move .head-length;
       runs-are = s .suited .ready-to-move .runs-are;
       elements-long = s .suited .records;
+      few = s .suited .few;
       host-known = s .host-most;
       block-long = sized _ _ _ (s .fitting) (chosen .enum-told3 .given .1);
     }

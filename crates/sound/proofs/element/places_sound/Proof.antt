@@ -2,19 +2,18 @@
 use Prim.Native.Nat.{_-_}
 use native.Mathlib.Omega.{arith}
 use borrow.Author.Needs.{needs}
-use Rattle.sound.proofs.Once.{marks-begin}
 use Rattle.sound.proofs.Pass.{Filing, file-begins, file-run, file-on, file-stops, file-ends}
 use Rattle.sound.proofs.element.places_sound.Statement.{statement}
 use Rattle.sound.proofs.element.places_sound.Tie as tie
 
 abbrev Inv-loop : tie.InvT-loop
-Inv-loop unit top elements runs seen₀ first₀ k₀ seen first k = Filing unit top runs elements seen first k
+Inv-loop unit top elements seen₀ runs first₀ k₀ seen first k = Filing unit top runs elements seen₀ seen first k
 
 abbrev μ-loop : tie.MeasureT-loop
-μ-loop unit top elements runs seen₀ first₀ k₀ seen first k = 4 - k
+μ-loop unit top elements seen₀ runs first₀ k₀ seen first k = 4 - k
 
 loop-holds : tie.Need-loop-holds Inv-loop μ-loop
-loop-holds c = file-begins _ _ _ _ _ (marks-begin _)
+loop-holds c = file-begins _ _ _ _ _ (c .before .before .pre .0 .1)
 
 mul-r : tie.Need-mul-r Inv-loop μ-loop
 mul-r c = search needs
@@ -28,20 +27,24 @@ cast-end c = search needs
 add-end : tie.Need-add-end Inv-loop μ-loop
 add-end c =
     let turn = c .before .before .before in
-    let start = turn .before .before in
-    let run = file-run _ _ _ _ (search needs) _ _ _ (turn .loop .inv) (c .before .before .loop-test .taken) (start .pre .0) (start .pre .1) in
+    let start = turn .before .before .before in
+    let run = file-run _ _ _ _ (search needs) _ _ _ _ (turn .loop .inv) (c .before .before .loop-test .taken) (start .pre .0 .0) (start .pre .1) in
     omega (arith, run .there)
 
 run-sound-requires : tie.Need-run-sound-requires Inv-loop μ-loop
 run-sound-requires c κs =
     let turn = c .before .before .before .before in
-    let start = turn .before .before in
-    file-run _ _ _ _ (search needs) _ _ _ (turn .loop .inv) (c .before .before .before .loop-test .taken) (start .pre .0) (start .pre .1)
+    let start = turn .before .before .before in
+    file-run _ _ _ _ (search needs) _ _ _ _ (turn .loop .inv) (c .before .before .before .loop-test .taken) (start .pre .0 .0) (start .pre .1)
+
+same-length : tie.Need-same-length Inv-loop μ-loop
+same-length c = search needs
 
 returns : tie.Need-returns Inv-loop μ-loop
 returns c =
-    let turn = c .before .before .before .before .before .before in
-    file-stops _ _ _ _ (search needs) _ _ _ (turn .loop .inv) (c .before .before .before .before .before .loop-test .taken) _ (c .before .run-sound .ensures .0) (c .if1 .taken)
+    let call = c .before .before .before in
+    let test = call .before .before .before .before in
+    file-stops _ _ _ _ (search needs) _ _ _ _ (test .before .loop .inv) (test .loop-test .taken) _ (call .run-sound .ensures .0) (c .if1 .taken)
 
 add-k : tie.Need-add-k Inv-loop μ-loop
 add-k c = search needs
@@ -51,11 +54,15 @@ loop-less c = search needs
 
 loop-again : tie.Need-loop-again Inv-loop μ-loop
 loop-again c =
-    let turn = c .before .before .before .before .before .before in
-    file-on _ _ _ _ (search needs) _ _ _ (turn .loop .inv) (c .before .before .before .before .before .loop-test .taken) _ (c .before .run-sound .ensures .0) (c .if1 .left) _ (c .before .run-sound .ensures .1)
+    let call = c .before .before .before in
+    let test = call .before .before .before .before in
+    file-on _ _ _ _ (search needs) _ _ _ _ (test .before .loop .inv) (test .loop-test .taken) _ (call .run-sound .ensures .0) (c .if1 .left) _ (search needs) (call .run-sound .ensures .1)
+
+same-length-2 : tie.Need-same-length-2 Inv-loop μ-loop
+same-length-2 c = c .before .loop .inv .as-long
 
 returns-2 : tie.Need-returns-2 Inv-loop μ-loop
-returns-2 c = file-ends _ _ _ _ (search needs) _ _ _ (c .before .loop .inv) (c .loop-test .left)
+returns-2 c = file-ends _ _ _ _ (search needs) _ _ _ _ (c .before .loop .inv) (c .loop-test .left)
 
 pub places-sound-spec : {M : Type 1} → statement M
 places-sound-spec =
@@ -69,8 +76,10 @@ places-sound-spec =
     cast-end
     add-end
     run-sound-requires
+    same-length
     returns
     add-k
     loop-less
     loop-again
+    same-length-2
     returns-2)

@@ -9,43 +9,49 @@ use Rattle.sound.proofs.element.run_sound.Statement.{statement}
 use Rattle.sound.proofs.element.run_sound.Tie as tie
 
 abbrev Inv-loop : tie.InvT-loop
-Inv-loop runs unit top kind first end elements seen₀ last p₀ seen p = Passing unit top (laid runs) elements kind first end seen p
+Inv-loop runs unit top kind first end elements seen₀ last p₀ seen p = Passing unit top (laid runs) elements kind first end seen₀ seen p
 
 abbrev μ-loop : tie.MeasureT-loop
 μ-loop runs unit top kind first end elements seen₀ last p₀ seen p = end - p
 
 loop-holds : tie.Need-loop-holds Inv-loop μ-loop
-loop-holds c = pass-begins _ _ _ _ _ _ _ _ (c .before .before .pre)
+loop-holds c = pass-begins _ _ _ _ _ _ _ _ (c .before .before .before .pre)
 
 last-of-requires : tie.Need-last-of-requires Inv-loop μ-loop
 last-of-requires c κs = search needs
 
 fits-requires : tie.Need-fits-requires Inv-loop μ-loop
 fits-requires c κs =
-    let start = c .before .before .before .before in
+    let start = c .before .before .before .before .before in
     omega (arith, start .pre .there, c .loop-test .taken)
+
+same-length : tie.Need-same-length Inv-loop μ-loop
+same-length c = c .before .before .before .loop .inv .as-long
 
 returns : tie.Need-returns Inv-loop μ-loop
 returns c =
     let fit = c .before in
     let turn = fit .before .before in
-    (pass-unfit _ _ _ _ _ _ _ _ (turn .before .before .before .pre) _ _ (turn .loop .inv) (fit .before .loop-test .taken) _ (turn .before .last-of .ensures) _ (fit .fits2 .ensures) (c .if1 .taken), never)
+    (pass-unfit _ _ _ _ _ _ _ _ (turn .before .before .before .before .pre) _ _ (turn .loop .inv) (fit .before .loop-test .taken) _ (turn .before .last-of .ensures) _ (fit .fits2 .ensures) (c .if1 .taken), never)
 
 volume-requires : tie.Need-volume-requires Inv-loop μ-loop
 volume-requires c κs =
     let test = c .before .before in
-    omega (arith, test .before .before .before .before .pre .there, test .loop-test .taken)
+    omega (arith, test .before .before .before .before .before .pre .there, test .loop-test .taken)
 
 cast-v : tie.Need-cast-v Inv-loop μ-loop
 cast-v c = search needs
 
-element-copy-out-if3 : tie.Need-element-copy-out-if3 Inv-loop μ-loop
-element-copy-out-if3 c =
-    let read = c .before in
+slice-read-if3 : tie.Need-slice-read-if3 Inv-loop μ-loop
+slice-read-if3 c =
+    let read = c .before .before in
     let fit = read .before .before in
     let turn = fit .before .before in
-    let start = turn .before .before .before in
-    omega (arith, volume-small _ _ _ _ _ _ _ _ (start .pre) _ _ (turn .loop .inv) (fit .before .loop-test .taken) _ (turn .before .last-of .ensures) _ (fit .fits2 .ensures) (read .before .if1 .left) _ (read .volume .ensures))
+    let start = turn .before .before .before .before in
+    volume-small _ _ _ _ _ _ _ _ (start .pre) _ _ (turn .loop .inv) (fit .before .loop-test .taken) _ (turn .before .last-of .ensures) _ (fit .fits2 .ensures) (read .before .if1 .left) _ (read .volume .ensures)
+
+same-length-2 : tie.Need-same-length-2 Inv-loop μ-loop
+same-length-2 c = let fit = c .before .before .before .before .before in fit .before .before .loop .inv .as-long
 
 returns-2 : tie.Need-returns-2 Inv-loop μ-loop
 returns-2 c =
@@ -53,16 +59,16 @@ returns-2 c =
     let read = some .before in
     let fit = read .before .before in
     let turn = fit .before .before in
-    let start = turn .before .before .before in
+    let start = turn .before .before .before .before in
     (pass-twice _ _ _ _ _ _ _ _ (start .pre) _ _ (turn .loop .inv) (fit .before .loop-test .taken) _ (turn .before .last-of .ensures) _ (fit .fits2 .ensures) (read .before .if1 .left) _ (read .volume .ensures) (some .if2 .taken) (c .if3 .taken), never)
 
-element-write-seen : tie.Need-element-write-seen Inv-loop μ-loop
-element-write-seen c =
+slice-write-seen : tie.Need-slice-write-seen Inv-loop μ-loop
+slice-write-seen c =
     let read = c .before .before .before in
     let fit = read .before .before in
     let turn = fit .before .before in
-    let start = turn .before .before .before in
-    omega (arith, volume-small _ _ _ _ _ _ _ _ (start .pre) _ _ (turn .loop .inv) (fit .before .loop-test .taken) _ (turn .before .last-of .ensures) _ (fit .fits2 .ensures) (read .before .if1 .left) _ (read .volume .ensures))
+    let start = turn .before .before .before .before in
+    volume-small _ _ _ _ _ _ _ _ (start .pre) _ _ (turn .loop .inv) (fit .before .loop-test .taken) _ (turn .before .last-of .ensures) _ (fit .fits2 .ensures) (read .before .if1 .left) _ (read .volume .ensures)
 
 add-p : tie.Need-add-p Inv-loop μ-loop
 add-p c = search needs
@@ -75,14 +81,17 @@ loop-again c =
     let read = c .before in
     let fit = read .before .before in
     let turn = fit .before .before in
-    let start = turn .before .before .before in
+    let start = turn .before .before .before .before in
     ⊎-elim
     (λ w. rw (w .3) (pass-new _ _ _ _ _ _ _ _ (start .pre) _ _ (turn .loop .inv) (fit .before .loop-test .taken) _ (turn .before .last-of .ensures) _ (fit .fits2 .ensures) (read .before .if1 .left) _ (read .volume .ensures) (w .0 .taken) (w .2 .left)))
     (λ w. rw (w .1) (pass-empty _ _ _ _ _ _ _ _ (start .pre) _ _ (turn .loop .inv) (fit .before .loop-test .taken) _ (turn .before .last-of .ensures) _ (fit .fits2 .ensures) (read .before .if1 .left) _ (read .volume .ensures) (w .0 .left)))
     (c .if2 .came)
 
+same-length-3 : tie.Need-same-length-3 Inv-loop μ-loop
+same-length-3 c = c .before .loop .inv .as-long
+
 returns-3 : tie.Need-returns-3 Inv-loop μ-loop
-returns-3 c = let all = pass-all _ _ _ _ _ _ _ _ (c .before .before .before .before .pre) _ _ (c .before .loop .inv) (c .loop-test .left) in (all .0, λ e. all .1)
+returns-3 c = let all = pass-all _ _ _ _ _ _ _ _ (c .before .before .before .before .before .pre) _ _ (c .before .loop .inv) (c .loop-test .left) in (all .0, λ e. all .1)
 
 pub run-sound-spec : {M : Type 1} → statement M
 run-sound-spec =
@@ -93,13 +102,16 @@ run-sound-spec =
     last-of-requires
     loop-holds
     fits-requires
+    same-length
     returns
     volume-requires
     cast-v
-    element-copy-out-if3
+    slice-read-if3
+    same-length-2
     returns-2
-    element-write-seen
+    slice-write-seen
     add-p
     loop-less
     loop-again
+    same-length-3
     returns-3)
