@@ -20,11 +20,11 @@
  * - x86-64 code for the System V calling convention (Linux). Of other symbols it needs memcpy and memset alone.
  * - No slice needs an alignment. It has no state, no heap and no locks: all it knows between two calls is in the tables. Threads may call it
  *   at once on separate tables.
- * - A call takes less than 2 KB of stack (1.5 to 1.6 measured). In a program that binds symbols lazily the first call takes about 4.6 KB,
+ * - A call takes less than 2.5 KB of stack (2.4 measured). In a program that binds symbols lazily the first call takes about 5.4 KB,
  *   once: the dynamic linker's look-up of memset. Linked with -static or -Wl,-z,now it does not.
  * - Every call first checks all tables, in one pass. Measured by the benchmark in tests/: a readiness test takes about 0.1 microseconds at 7
- *   elements and 1.2 at 512; at 512, MOVE, EXCHANGE and MODE SENSE take no more than can be told from that, a whole listing with tags 2.6, and
- *   a RESERVE of 32 descriptors that name all 512 elements, the dearest call, 240.
+ *   elements and 1.5 at 512; at 512, MOVE, EXCHANGE and MODE SENSE take no more than can be told from that; a whole listing with tags, and a
+ *   RESERVE of 32 descriptors that name all 512 elements, the dearest calls, take 4 to 5.
  */
 #ifndef SMC_H
 #define SMC_H
