@@ -24,7 +24,7 @@
  *   once: the dynamic linker's look-up of memset. Linked with -static or -Wl,-z,now it does not.
  * - Every call first checks all tables, in one pass. Measured by the benchmark in tests/: a readiness test takes about 0.1 microseconds at 7
  *   elements and 1.5 at 512; at 512, MOVE, EXCHANGE and MODE SENSE take no more than can be told from that; a whole listing with tags, and a
- *   RESERVE of 32 descriptors that name all 512 elements, the dearest calls, take 4 to 5.
+ *   RESERVE of 32 descriptors that name all 512 elements, the dearest calls, take 3 to 5.
  */
 #ifndef SMC_H
 #define SMC_H
