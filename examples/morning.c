@@ -51,6 +51,7 @@ static void build_library(void)
     put_range(SMC_DRIVE, 0x0100, 1);
     put16(elements + 3 * SMC_ELEMENT_SIZE + SMC_ELEMENT_VOLUME, 1); /* volume 1 at 1000h */
     put16(elements + 5 * SMC_ELEMENT_SIZE + SMC_ELEMENT_VOLUME, 2); /* volume 2 at 1002h */
+    put16(head + SMC_HEAD_FREE, 2); /* 1001h and 1003h are empty: counted once, and kept by the calls from here on */
     write_label(tags, "FILM01L8");
     write_label(tags + SMC_TAG_SIZE, "FILM02L8");
     write_label(tags + 2 * SMC_TAG_SIZE, "FILM03L8");
@@ -120,6 +121,13 @@ static void print_listing(smc_reply reply)
                (const char *)d + SMC_DESCRIPTOR_LABEL);
 }
 
+/* What the front panel shows: the calls keep it, so that it is read from the head and nothing is counted. */
+static void show_panel(void)
+{
+    const uint8_t *number = head + SMC_HEAD_FREE;
+    printf("%50s %d empty shelves\n", "the panel shows", number[0] * 256 + number[1]);
+}
+
 int main(void)
 {
     static const uint8_t ready[6] = {SMC_TEST_UNIT_READY};
@@ -129,6 +137,7 @@ int main(void)
     tell_sense(1);
     say("Host 1 moves volume 3 from 0010h to shelf 1001h:", move(1, 0x0010, 0x1001));
     say("Host 1 moves volume 1 from 1000h to the drive:", move(1, 0x1000, 0x0100));
+    show_panel();
     say("Host 1 moves the drive's volume onto shelf 1001h:", move(1, 0x0100, 0x1001));
     tell_sense(1);
     say("Host 2 asks whether the unit is ready:", send(2, ready, sizeof ready, NULL, 0));

@@ -193,6 +193,15 @@ static smc_fault elements_of(const library *l)
     return none;
 }
 
+/* "Sound tables have it equal to the true count" */
+static smc_fault empty_shelves(const library *l)
+{
+    unsigned number = get16(l->head + SMC_HEAD_FREE), count = 0;
+    for (unsigned place = 0; place < l->count; place++)
+        count += slot(l, place).kind == STORAGE && element_at(l, place).volume == 0;
+    return number != count ? of_range(SMC_CLAUSE_EMPTY_SHELVES, 0, number, count) : none;
+}
+
 /* ---- the whole ---- */
 
 smc_fault smc_explain(SMC_TABLES)
@@ -214,7 +223,9 @@ smc_fault smc_explain(SMC_TABLES)
         return of_range(SMC_CLAUSE_BLANK_LENGTH, 0, blank_len, 0);
     if (elements_len != (size_t)SMC_ELEMENT_SIZE * l.count)
         return of_range(SMC_CLAUSE_ELEMENTS_LENGTH, 0, elements_len, (uint64_t)SMC_ELEMENT_SIZE * l.count);
-    return elements_of(&l);
+    if ((found = elements_of(&l)).clause)
+        return found;
+    return empty_shelves(&l);
 }
 
 /* ---- in words ---- */
@@ -227,7 +238,7 @@ static const struct {
     enum { NOT_TOLD, DECIMAL, HEXADECIMAL } base;
 } words[] = {
     [SMC_SOUND] = {"the tables are sound", "", NOT_TOLD},
-    [SMC_CLAUSE_HEAD_LENGTH] = {"the head has 58 bytes", "length", DECIMAL},
+    [SMC_CLAUSE_HEAD_LENGTH] = {"the head has 60 bytes", "length", DECIMAL},
     [SMC_CLAUSE_ELEMENT_COUNT] = {"there are 1 to 512 elements", "number", DECIMAL},
     [SMC_CLAUSE_TRANSPORT_COUNT] = {"there are 1 to 127 transports", "number", DECIMAL},
     [SMC_CLAUSE_NO_SHELF] = {"there is a storage or import/export element", "", NOT_TOLD},
@@ -252,6 +263,7 @@ static const struct {
     [SMC_CLAUSE_UNIT_HELD_ALONE] = {"if the unit is held, no other host holds an element", "holder", DECIMAL},
     [SMC_CLAUSE_ZERO_BYTE] = {"the last byte of an element is 0", "byte", DECIMAL},
     [SMC_CLAUSE_VOLUME_TWICE] = {"a volume stands in one element at most", "volume", DECIMAL},
+    [SMC_CLAUSE_EMPTY_SHELVES] = {"the head's last two bytes are the number of empty storage elements", "number", DECIMAL},
 };
 
 enum { CLAUSES = sizeof words / sizeof *words };
@@ -288,7 +300,7 @@ static void tell_other(const smc_fault *f, char *text, size_t size)
         snprintf(text, size, " and the %s range", range_names[other]);
     if (f->clause == SMC_CLAUSE_UNIT_HELD_ALONE)
         snprintf(text, size, ", and host %llu holds the unit", other);
-    if (f->clause == SMC_CLAUSE_ELEMENTS_LENGTH)
+    if (f->clause == SMC_CLAUSE_ELEMENTS_LENGTH || f->clause == SMC_CLAUSE_EMPTY_SHELVES)
         snprintf(text, size, " and not %llu", other);
     if (f->clause == SMC_CLAUSE_VOLUME_TWICE)
         snprintf(text, size, " stands in element %04llXh too", other);

@@ -7,6 +7,8 @@
  * - number 0: the call was carried out; status, count, the tables and the answer are as the rules say.
  * - number 1 to 9: the call was refused; no byte of head, elements or answer has changed, and status and count are 0.
  * - CHECK CONDITION (02h) and RESERVATION CONFLICT (18h) change no element, and of the head only the calling host's five bytes.
+ * - After a call with any number but 1 the last two bytes of the head are the number of empty storage elements. MOVE and EXCHANGE with GOOD
+ *   alone change it.
  * - Bytes of the answer past count are as they were. count is above 0 only for GOOD of REQUEST SENSE, READ ELEMENT STATUS
  *   and MODE SENSE.
  * - tags and blank are never written. Sound tables stay sound.
@@ -37,7 +39,7 @@ extern "C" {
 #endif
 
 /* The interface's version. It rises with each change that moves a layout, lends a further table or adds an entry. */
-#define SMC_INTERFACE 1
+#define SMC_INTERFACE 2
 
 typedef struct {
     uint8_t number;     /* house number, 0 for none */
@@ -80,8 +82,8 @@ enum { SMC_TRANSPORT = 1, SMC_STORAGE = 2, SMC_IMPORT_EXPORT = 3, SMC_DRIVE = 4 
 
 /* ---- Sizes and offsets in bytes, and limits. Numbers in slices have their high byte first. */
 
-/* The head: a range for each type, the unit's holder, the prevent mask, a record for each host. */
-#define SMC_HEAD_SIZE 58
+/* The head: a range for each type, the unit's holder, the prevent mask, a record for each host, the number of empty storage elements. */
+#define SMC_HEAD_SIZE 60
 #define SMC_RANGES 4
 #define SMC_RANGE_SIZE 4
 #define SMC_RANGE_AT(type) (SMC_RANGE_SIZE * ((type) - 1))
@@ -98,6 +100,10 @@ enum { SMC_TRANSPORT = 1, SMC_STORAGE = 2, SMC_IMPORT_EXPORT = 3, SMC_DRIVE = 4 
 #define SMC_HOST_ASCQ 2
 #define SMC_HOST_ATTENTION 3   /* the attention's ASC and ASCQ */
 #define SMC_HOST_ATTENTIONQ 4
+
+/* The head's last two bytes: how many storage elements are empty. Whoever makes fresh tables, or writes elements by himself, stores the true
+ * count; from then on the calls keep it, and the front panel reads it here. Any other number is SMC_TABLES_NOT_SOUND. */
+#define SMC_HEAD_FREE 58
 
 /* A record of elements. */
 #define SMC_ELEMENT_SIZE 8
@@ -214,11 +220,12 @@ smc_reply smc_release(SMC_TABLES, SMC_COMMAND);
 smc_reply smc_prevent_allow(SMC_TABLES, SMC_COMMAND);
 
 /* With GOOD one volume has gone from source to destination. If it left a storage element, that one is named as its source from now on; if it
- * left a drive or an import/export element, it keeps the source that it had, none included. Any other end moves nothing. */
+ * left a drive or an import/export element, it keeps the source that it had, none included. The number of empty storage elements in the head
+ * goes with it. Any other end moves nothing. */
 smc_reply smc_move_medium(SMC_TABLES, SMC_COMMAND);
 
 /* With GOOD the first destination's volume is in the second, and the source's in the first: a swap, where the second is the source. Each
- * volume's source is as for a move. Any other end moves nothing. */
+ * volume's source, and the number of empty storage elements, are as for a move. Any other end moves nothing. */
 smc_reply smc_exchange_medium(SMC_TABLES, SMC_COMMAND);
 
 /* Returns a listing, in whole descriptors as many as the allocation has room for. Its counts are of all that was chosen, however small

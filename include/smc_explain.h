@@ -39,7 +39,8 @@ typedef enum {
     SMC_CLAUSE_ID_WITHOUT_HOLDER,  /* element; value: the reservation id */
     SMC_CLAUSE_UNIT_HELD_ALONE,    /* element; value: the holder; other: the unit holder */
     SMC_CLAUSE_ZERO_BYTE,          /* element; value: the byte */
-    SMC_CLAUSE_VOLUME_TWICE        /* element; value: the volume number; other: the address of the element where it stands before */
+    SMC_CLAUSE_VOLUME_TWICE,       /* element; value: the volume number; other: the address of the element where it stands before */
+    SMC_CLAUSE_EMPTY_SHELVES       /* value: the number in the head; other: how many storage elements are empty */
 } smc_clause;
 
 /* The first clause that fails, and where. What a clause does not speak of is 0. */

@@ -5,7 +5,8 @@
 #include <string.h>
 
 /* The header's sizes follow from one another. */
-_Static_assert(SMC_HEAD_SIZE == SMC_HOST_AT(SMC_HOSTS + 1) && SMC_RANGE_AT(SMC_RANGES + 1) == SMC_HEAD_UNIT, "the head");
+_Static_assert(SMC_HEAD_FREE == SMC_HOST_AT(SMC_HOSTS + 1) && SMC_RANGE_AT(SMC_RANGES + 1) == SMC_HEAD_UNIT, "the head");
+_Static_assert(SMC_HEAD_SIZE == SMC_HEAD_FREE + 2, "the number of empty storage elements");
 _Static_assert(SMC_TAGGED_DESCRIPTOR_SIZE == SMC_PLAIN_DESCRIPTOR_SIZE + SMC_TAG_SIZE, "a descriptor");
 _Static_assert(SMC_LARGEST_ANSWER == SMC_LISTING_HEADER_SIZE + SMC_RANGES * SMC_PAGE_HEADER_SIZE
                    + SMC_MOST_ELEMENTS * SMC_TAGGED_DESCRIPTOR_SIZE, "the largest answer");
@@ -87,6 +88,7 @@ static void small_library(void)
     }
     put16(elements + 3 * SMC_ELEMENT_SIZE, 1);
     put16(elements + 5 * SMC_ELEMENT_SIZE, 2);
+    put16(head + SMC_HEAD_FREE, 2);
 }
 
 static void remember(void)
@@ -146,6 +148,11 @@ static void element_is(const char *call, int place, unsigned volume, unsigned so
            call, "another element record");
 }
 
+static void free_is(const char *call, unsigned number)
+{
+    expect(head[SMC_HEAD_FREE] == number / 256 && head[SMC_HEAD_FREE + 1] == number % 256, call, "another number of empty shelves");
+}
+
 typedef smc_reply (*entry)(SMC_TABLES, SMC_COMMAND);
 
 static smc_reply send(entry to, uint32_t host, const uint8_t *block, size_t length)
@@ -175,6 +182,7 @@ static void every_entry_moves(void)
         ended(entries[i].name, send(entries[i].to, 1, p1, 12), SMC_GOOD, 0);
         element_is(entries[i].name, 2, 1, 0x1000, 0, 0, 0);
         element_is(entries[i].name, 3, 0, 0, 0, 0, 0);
+        free_is(entries[i].name, 3);
         small_library();
         refused(entries[i].name, send(entries[i].to, 257, p1, 12), SMC_UNKNOWN_HOST);
         refused(entries[i].name, send(entries[i].to, 0, p1, 12), SMC_UNKNOWN_HOST);
@@ -310,6 +318,7 @@ static void mode_of_many_transports(void)
         put16(arms_head + 2, count);
         put16(arms_head + 4, 1 + count);
         put16(arms_head + 6, 1);
+        put16(arms_head + SMC_HEAD_FREE, 1);
         smc_reply reply = smc_mode_sense(arms_head, SMC_HEAD_SIZE, arms, (count + 1) * SMC_ELEMENT_SIZE, tags, 3 * SMC_TAG_SIZE,
                                          blank, SMC_TAG_SIZE, 1, block, 6, NULL, 0, answer, 512);
         ended("mode, many transports", reply, rows[i].status, rows[i].count);
@@ -351,6 +360,40 @@ static void last_shelf(void)
     }
     put16(elements + 3 * SMC_ELEMENT_SIZE + SMC_ELEMENT_SOURCE, 0x1003);
     ended("a source that is a shelf", send(smc_test_unit_ready, 1, ready, 6), SMC_GOOD, 0);
+}
+
+/* Document 02, Four: the head's last two bytes are the number of empty shelves, at the start and behind every move, exchange, import, export and reset. */
+static void empty_shelves(void)
+{
+    static const uint8_t to_shelf[12] = {0xA5, 0, 0, 0, 0x01, 0x00, 0x10, 0x01}, between[12] = {0xA5, 0, 0, 0, 0x10, 0x02, 0x10, 0x03};
+    static const uint8_t onward[12] = {0xA6, 0, 0, 0, 0x10, 0x03, 0x01, 0x00, 0x00, 0x10}, back[12] = {0xA6, 0, 0, 0, 0x00, 0x10, 0x01, 0x00, 0x10, 0x03};
+    static const unsigned wrong[] = {0, 1, 3, 4, 0x0102, 0x0200, 0xFFFF};
+    small_library();
+    ended("shelf to shelf", send(smc_move_medium, 1, between, 12), SMC_GOOD, 0);
+    free_is("shelf to shelf", 2);
+    ended("shelf to drive", send(smc_move_medium, 1, p1, 12), SMC_GOOD, 0);
+    free_is("shelf to drive", 3);
+    ended("shelf, drive, mail slot", send(smc_exchange_medium, 1, onward, 12), SMC_GOOD, 0);
+    free_is("shelf, drive, mail slot", 4);
+    ended("mail slot, drive, shelf", send(smc_exchange_medium, 1, back, 12), SMC_GOOD, 0);
+    free_is("mail slot, drive, shelf", 3);
+    ended("drive to shelf", send(smc_move_medium, 1, to_shelf, 12), SMC_GOOD, 0);
+    free_is("drive to shelf", 2);
+    remember();
+    ended("import", smc_import(TABLES, 0x0010, 3), SMC_GOOD, 0);
+    free_is("import", 2);
+    remember();
+    ended("export", smc_export(TABLES, 0x0010), SMC_GOOD, 0);
+    free_is("export", 2);
+    remember();
+    ended("reset", smc_reset(TABLES), SMC_GOOD, 0);
+    free_is("reset", 2);
+    for (size_t i = 0; i < sizeof wrong / sizeof *wrong; i++) {
+        small_library();
+        put16(head + SMC_HEAD_FREE, wrong[i]);
+        refused("another number", send(smc_test_unit_ready, 1, ready, 6), SMC_TABLES_NOT_SOUND);
+        refused("another number", smc_import(TABLES, 0x0010, 3), SMC_TABLES_NOT_SOUND);
+    }
 }
 
 static void reservations(void)
@@ -415,6 +458,7 @@ int main(void)
     mode_refusals();
     mode_of_many_transports();
     last_shelf();
+    empty_shelves();
     reservations();
     events();
     nothing_lent();

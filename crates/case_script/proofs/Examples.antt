@@ -42,9 +42,13 @@ volume-line : lineRead (letters " volume 100h 1") (7 ∷ []) ≡ says false 27 2
 unfolding opened
 volume-line = refl
 
-set-line : lineRead (letters "set sense 1 5/24/00") (7 ∷ 7 ∷ 7 ∷ []) ≡ says true 34 1 0 3 4 9 (5 ∷ 0x24 ∷ 0 ∷ [])
+set-line : lineRead (letters "set sense 1 5/24/00") (7 ∷ 7 ∷ 7 ∷ []) ≡ says true 35 1 0 3 4 9 (5 ∷ 0x24 ∷ 0 ∷ [])
 unfolding opened
 set-line = refl
+
+free-line : lineRead (letters "set free 100h") [] ≡ says true 34 256 0 0 4 8 []
+unfolding opened
+free-line = refl
 
 blank-line : lineRead (letters "  # volume 100h 1") [] ≡ record { reading = Blank; bytes = [] }
 unfolding opened

@@ -37,5 +37,8 @@ ID = 30
 abbrev pub UNIT : ℕ
 UNIT = 32
 
+abbrev pub MASK : ℕ
+MASK = 33
+
 abbrev pub SENSE : ℕ
-SENSE = 34
+SENSE = 35

@@ -35,16 +35,16 @@ pub const TABLE: u8 = b't';
 pub const KEPT: u8 = b's';
 
 // The number of the last word.
-pub const LAST: u8 = 40;
+pub const LAST: u8 = 41;
 
 // A letter for each number of a word from 0 on.
-const CLASSES: [u8; 41] = *b"\
+const CLASSES: [u8; 42] = *b"\
     ?cwwrrrrlvllll\
     pppkkkkyyyyya\
-    eeeeeuuhhtttts";
+    eeeeeuuuhhtttts";
 
 // Which table a word of the classes `l` and `t` speaks of, and which range one of the class `r`, from 0 on.
-const WHICH: [u8; 41] = [
+const WHICH: [u8; 42] = [
     0,
     0,
     0,
@@ -59,6 +59,7 @@ const WHICH: [u8; 41] = [
     1,
     2,
     3,
+    0,
     0,
     0,
     0,

@@ -65,16 +65,18 @@ pub const UNIT: u8 = 32;
 
 pub const MASK: u8 = 33;
 
-pub const SENSE: u8 = 34;
+pub const FREE: u8 = 34;
 
-pub const ATTENTION: u8 = 35;
+pub const SENSE: u8 = 35;
 
-pub const HEAD: u8 = 36;
+pub const ATTENTION: u8 = 36;
 
-pub const ELEMENTS: u8 = 37;
+pub const HEAD: u8 = 37;
 
-pub const TAGS: u8 = 38;
+pub const ELEMENTS: u8 = 38;
 
-pub const BLANK: u8 = 39;
+pub const TAGS: u8 = 39;
 
-pub const KEPT: u8 = 40;
+pub const BLANK: u8 = 40;
+
+pub const KEPT: u8 = 41;

@@ -85,6 +85,84 @@ fn element(what: u8, address: u32, value: u32, state: State, room: &mut [u8]) ->
     field(&mut room[start..end], what, place, value as u16)
 }
 
+// How many empty shelves are at an address: one, or none.
+fn empty_shelves(address: u32, head: &[u8], elements: &[u8]) -> u16 {
+    if 0xFFFF < address {
+        return 0;
+    }
+    if head.len() < layout::HEAD_SIZE {
+        return 0;
+    }
+    let runs = tables::runs(head);
+    if tables::kind_of(runs, address as u16) != layout::STORAGE {
+        return 0;
+    }
+    let Found::At(place) = tables::find(runs, address, Types::Any) else {
+        return 0;
+    };
+    if elements.len() / layout::ELEMENT_SIZE <= place {
+        return 0;
+    }
+    if tables::element::volume(elements, place) == 0 {
+        return 1;
+    }
+    0
+}
+
+// The number of empty shelves behind a line, where so many were empty at its address, and are.
+fn counted(n: u16, before: u16, behind: u16) -> u16 {
+    if before < behind {
+        if n < 0xFFFF {
+            return n + 1;
+        }
+    }
+    if behind < before {
+        if 0 < n {
+            return n - 1;
+        }
+    }
+    n
+}
+
+fn count(before: u16, behind: u16, head: &mut [u8]) {
+    if head.len() < layout::HEAD_SIZE {
+        return;
+    }
+    let n = tables::head::panel(head);
+    tables::head::show(head, counted(n, before, behind));
+}
+
+// "`set volume` keeps the number of empty shelves": one more where a shelf is emptied, one fewer where one is filled.
+fn element_counted(line: Line, state: State, room: &mut [u8]) -> Put {
+    let address = line.first;
+    let before = empty_shelves(
+        address,
+        case_rooms::table(state, parts::HEAD, room),
+        case_rooms::table(state, parts::ELEMENTS, room),
+    );
+    let put = element(line.word, address, line.second, state, room);
+    let behind = empty_shelves(
+        address,
+        case_rooms::table(state, parts::HEAD, room),
+        case_rooms::table(state, parts::ELEMENTS, room),
+    );
+    let n = case_rooms::least(case_rooms::length_of(state, parts::HEAD), room.len());
+    count(before, behind, &mut room[0..n]);
+    put
+}
+
+// The number of empty shelves, true or not.
+fn free(value: u32, head: &mut [u8]) -> Put {
+    if 0xFFFF < value {
+        return Put::Fault(fault::ABOVE_WORD);
+    }
+    if head.len() < layout::HEAD_SIZE {
+        return Put::Fault(fault::OUTSIDE);
+    }
+    tables::head::show(head, value as u16);
+    Put::Done
+}
+
 // "unit holder and prevent mask"
 fn unit_or_mask(what: u8, value: u32, head: &mut [u8]) -> Put {
     if 0xFF < value {
@@ -136,9 +214,12 @@ pub fn set(state: State, line: Line, room: &mut [u8], bytes: &[u8]) -> Effect {
         );
     }
     if class == class::ELEMENT {
-        return with(state, element(what, line.first, line.second, state, room));
+        return with(state, element_counted(line, state, room));
     }
     let n = case_rooms::least(case_rooms::length_of(state, parts::HEAD), room.len());
+    if what == word::FREE {
+        return with(state, free(line.first, &mut room[0..n]));
+    }
     if class == class::UNIT {
         return with(state, unit_or_mask(what, line.first, &mut room[0..n]));
     }

@@ -38,7 +38,7 @@ fn sized(state: State, n: usize, v: usize) -> Effect
     case_rooms::done(case_rooms::resized(s, parts::BLANK, layout::TAG_SIZE))
 }
 
-// "a head of 58 zeros, .. a blank label of 36 blanks"
+// "a head of 60 zeros, .. a blank label of 36 blanks"
 fn empty(room: &mut [u8]) {
     case_rooms::paint(room, parts::HEAD_AT, layout::HEAD_SIZE, 0);
     case_rooms::paint(room, parts::BLANK_AT, layout::TAG_SIZE, b' ');
@@ -53,10 +53,11 @@ fn stock(room: &mut [u8], place: usize, volume: u8)
 }
 
 // "Transport 0001h, import/export 0010h, drive 0100h, storage 1000h to 1003h. Volume 1 at 1000h, 2 at 1002h": the elements lie by address,
-// so that these two stand at places 3 and 5.
+// so that these two stand at places 3 and 5; the other two shelves are empty.
 fn small_elements(room: &mut [u8]) {
     let ranges = [0u8, 1, 0, 1, 0x10, 0, 0, 4, 0, 0x10, 0, 1, 1, 0, 0, 1];
     case_rooms::write(room, parts::HEAD_AT, &ranges);
+    case_rooms::paint(room, parts::HEAD_AT + layout::PANEL + 1, 1, 2);
     case_rooms::paint(room, parts::ELEMENTS_AT, layout::ELEMENT_SIZE * 7, 0);
     stock(room, 3, 1);
     stock(room, 5, 2);
@@ -107,6 +108,15 @@ fn anew(length: usize, room: &mut [u8]) -> Length {
     Length::Is(n)
 }
 
+// Every shelf is empty: there are as many as the second range counts.
+fn all_empty(room: &mut [u8]) {
+    if room.len() < layout::HEAD_SIZE {
+        return;
+    }
+    let shelves = wire::word_at(room, layout::RANGE_SIZE + layout::RANGE_COUNT);
+    tables::head::show(room, shelves);
+}
+
 // "a range of the head": the k-th, from 0 on, of a head of `length` bytes
 fn range(k: usize, first: u32, count: u32, length: usize, room: &mut [u8]) -> Length {
     if 0xFFFF < first {
@@ -124,6 +134,7 @@ fn range(k: usize, first: u32, count: u32, length: usize, room: &mut [u8]) -> Le
     let at = layout::RANGE_SIZE * k;
     wire::put_word(room, at, first as u16);
     wire::put_word(room, at + layout::RANGE_COUNT, count as u16);
+    all_empty(room);
     anew(length, room)
 }
 

@@ -4,7 +4,7 @@ use mathlib.Core.List.{List}
 use lib.ListN.{length}
 use lib.Dec.{eqb, leb, ltb}
 use Rattle.rules.specs.Choice.{when}
-use Rattle.rules.specs.Tables.{headSize, hosts, places, volume, source, holder, id, mark, unit, mask, key, asc, ascq, attention, attentionq}
+use Rattle.rules.specs.Tables.{headSize, hosts, places, volume, source, holder, id, mark, unit, mask, panel, key, asc, ascq, attention, attentionq}
 use Rattle.rules.specs.Roster.{roster}
 use Rattle.rules.specs.Sound.{within}
 use Rattle.order.specs.declared.Reply.{Reply}
@@ -12,7 +12,7 @@ use Rattle.tables.specs.declared.Types.the-variants.{Any}
 use Rattle.tables.specs.declared.Found.{Found}
 use Rattle.tables.specs.declared.Found.the-variants.{At, Nothing}
 use Rattle.tables.specs.LookUp.{found}
-use Rattle.case_script.specs.Words.{NUMBER, STATUS, COUNT, PREVENTERS, VOLUME, SOURCE, HOLDER, ID, UNIT, SENSE}
+use Rattle.case_script.specs.Words.{NUMBER, STATUS, COUNT, PREVENTERS, VOLUME, SOURCE, HOLDER, ID, UNIT, MASK, SENSE}
 use Rattle.case_script.specs.Codes.{noElement, noHost, outside}
 use Rattle.case_rooms.specs.Alike.{compared}
 use Rattle.case_trial.specs.declared.judge.Value.{Value}
@@ -48,10 +48,13 @@ unfoldable pub elementField : List ℕ → List ℕ → ℕ → ℕ → Value
 elementField head elements w a =
     when (ltb (length head) headSize) (Missing outside) (fieldIn elements w (found Any (roster head) a))
 
--- "unit holder and prevent mask"
-unfoldable pub unitOrMask : List ℕ → ℕ → Value
-unitOrMask head w =
-    when (ltb (length head) headSize) (Missing outside) (when (eqb w UNIT) (Is (unit head)) (Is (mask head)))
+-- "unit holder, prevent mask and the number of empty shelves"
+unfoldable pub unitField : List ℕ → ℕ → Value
+unitField head w =
+    when (ltb (length head) headSize) (Missing outside)
+    (when (eqb w UNIT) (Is (unit head))
+    (when (eqb w MASK) (Is (mask head))
+    (Is (panel head))))
 
 -- key, ASC and ASCQ as one number
 abbrev pub joined : ℕ → ℕ → ℕ → ℕ

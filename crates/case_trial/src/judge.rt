@@ -14,7 +14,7 @@ ghost use mathlib.Core.Path.{_≡_};
 ghost use lib.ListN.{length};
 ghost use Rattle.case_rooms.specs.Parts.{part as partOf};
 ghost use Rattle.case_rooms.specs.Alike.{compared, comparedBytes};
-ghost use Rattle.case_trial.specs.Asked.{replied as repliedOf, fieldAt, elementField, unitOrMask, joined as joinedOf, hostRecord, against as againstOf};
+ghost use Rattle.case_trial.specs.Asked.{replied as repliedOf, fieldAt, elementField, unitField, joined as joinedOf, hostRecord, against as againstOf};
 
 const HOSTS: u32 = layout::HOSTS as u32;
 
@@ -132,9 +132,9 @@ fn element(head: &[u8], elements: &[u8], what: u8, address: u32) -> Value
     field(elements, what, place)
 }
 
-// "unit holder and prevent mask"
-fn unit_or_mask(head: &[u8], what: u8) -> Value
-    ensures { λ r. ⌜ r ≡ unitOrMask (now (head .entry)) what ⌝ }
+// "unit holder, prevent mask and the number of empty shelves"
+fn unit_field(head: &[u8], what: u8) -> Value
+    ensures { λ r. ⌜ r ≡ unitField (now (head .entry)) what ⌝ }
 {
     if head.len() < layout::HEAD_SIZE {
         return Value::Missing(fault::OUTSIDE);
@@ -142,7 +142,10 @@ fn unit_or_mask(head: &[u8], what: u8) -> Value
     if what == word::UNIT {
         return Value::Is(tables::head::unit(head) as u32);
     }
-    Value::Is(tables::head::mask(head) as u32)
+    if what == word::MASK {
+        return Value::Is(tables::head::mask(head) as u32);
+    }
+    Value::Is(tables::head::panel(head) as u32)
 }
 
 // Key, ASC and ASCQ as one number.
@@ -228,7 +231,7 @@ fn kept(state: State, room: &[u8]) -> Finding {
 fn of_head(line: Line, head: &[u8], expected: &[u8]) -> Finding {
     let what = line.word;
     if class::of(what) == class::UNIT {
-        return against(what, unit_or_mask(head, what), line.first);
+        return against(what, unit_field(head, what), line.first);
     }
     against(what, record(head, what, line.first), codes(expected))
 }

@@ -4,7 +4,7 @@ ghost use Rattle.rules.specs.Tables.{hostAt, attentionAt};
 
 // ---- the head
 
-pub const HEAD_SIZE: usize = HOST_RECORDS + HOST_RECORD * (HOSTS as usize);
+pub const HEAD_SIZE: usize = PANEL + 2;
 
 // "Four ranges of 4 bytes, each first address and count"
 pub const RANGES: usize = 4;
@@ -26,6 +26,9 @@ pub const HOST_RECORDS: usize = 18;
 pub const HOST_RECORD: usize = 5;
 
 pub const ATTENTION: usize = 3;
+
+// "how many storage elements are empty .. in the head as two further bytes"
+pub const PANEL: usize = HOST_RECORDS + HOST_RECORD * (HOSTS as usize);
 
 // ---- an element
 

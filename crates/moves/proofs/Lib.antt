@@ -1,3 +1,4 @@
 pub mod Meaning
 pub mod Answers
+pub mod Tallied
 pub mod Carried

@@ -8,11 +8,12 @@ use Rattle.rules.specs.Choice.{when, anyOf, allOf, differ}
 use Rattle.rules.specs.Tables.{Tables}
 use Rattle.rules.specs.Roster.{roster}
 use Rattle.rules.specs.Order.{heldByOther, volumeOf, sourceOf}
-use Rattle.rules.specs.Moves.{move, moveOf, exchange, exchangeOf, transportUsed, leave, shelfOf, carry}
+use Rattle.rules.specs.Moves.{move, moveOf, exchange, exchangeOf, transportUsed, noPlace, leave, shelfOf, carry}
 use Rattle.rules.proofs.Ladder.{any-yes, any-none, when-of, when-not}
 use Rattle.order.specs.Ending.{reason}
-use Rattle.tables.proofs.LookUp.{found-cases, no-transport-is, no-place-is}
-use Rattle.moves.specs.Judged.{armAt, shelfAt, meaning, moveAt, exchangeHeld, hinders, exchangeAt, moveBy, exchangeSpots, exchangeBy}
+use Rattle.tables.proofs.LookUp.{found-cases, no-transport-is}
+use Rattle.tables.specs.LookUp.{spotOf}
+use Rattle.moves.specs.Judged.{armAt, shelfAt, meaning, onPlace, moveAt, exchangeHeld, hinders, exchangeAt, moveBy, exchangeSpots, exchangeBy}
 
 -- a list of tests, one after the other
 any-more : {A : Type 0} (b : Bool) (bs : List Bool) (x y : A) → when (anyOf (b ∷ bs)) x y ≡ when b x (when (anyOf bs) x y)
@@ -33,10 +34,10 @@ full-other v a b x y = go (eqb v 0) (eqb a b)
     go false false = refl
 
 module _ (t : Tables) (h : ℕ) (block : List ℕ) where
-  pub move-means : meaning (roster (t .head)) (t .elements) h block (moveBy (roster (t .head)) (t .elements) h block) ≡ move t h block
-  unfolding moveBy moveAt move moveOf transportUsed armAt heldByOther volumeOf sourceOf leave shelfOf shelfAt carry meaning reason
-  move-means = simp (found-cases, when-of (meaning (roster (t .head)) (t .elements) h block), any-more, any-end, no-transport-is, no-place-is, when-not)
+  pub move-means : meaning (t .elements) h block (moveBy (roster (t .head)) (t .elements) h block) ≡ move t h block
+  unfolding moveBy onPlace moveAt move moveOf transportUsed armAt heldByOther volumeOf sourceOf leave shelfOf shelfAt spotOf noPlace carry meaning reason
+  move-means = simp (found-cases, when-of (meaning (t .elements) h block), any-more, any-end, no-transport-is, when-not)
 
-  pub exchange-means : meaning (roster (t .head)) (t .elements) h block (exchangeBy (roster (t .head)) (t .elements) h block) ≡ exchange t h block
-  unfolding exchangeBy exchangeSpots exchangeHeld hinders exchangeAt exchange exchangeOf transportUsed armAt heldByOther volumeOf sourceOf leave shelfOf shelfAt carry meaning reason
-  exchange-means = simp (found-cases, when-of (meaning (roster (t .head)) (t .elements) h block), any-more, any-end, no-transport-is, no-place-is, when-not, full-other)
+  pub exchange-means : meaning (t .elements) h block (exchangeBy (roster (t .head)) (t .elements) h block) ≡ exchange t h block
+  unfolding exchangeBy exchangeSpots onPlace exchangeHeld hinders exchangeAt exchange exchangeOf transportUsed armAt heldByOther volumeOf sourceOf leave shelfOf shelfAt spotOf noPlace carry meaning reason
+  exchange-means = simp (found-cases, when-of (meaning (t .elements) h block), any-more, any-end, no-transport-is, when-not, full-other)

@@ -1,21 +1,22 @@
 -- MOVE and EXCHANGE judged by places, as the code goes, and what each answer means in the rules. Assumes nothing.
-use Prim.Native.Nat.{ℕ, _<_, _≤_}
+use Prim.Native.Nat.{ℕ, _+_, _*_, _<_, _≤_}
 use mathlib.Core.Path.{_≡_}
 use mathlib.Core.List.{List, [], _∷_}
 use mathlib.Core.Bool.{Bool, false}
 use lib.ListN.{length}
-use lib.Dec.{eqb}
+use lib.Dec.{eqb, leb}
 use Rattle.rules.specs.Choice.{when, anyOf, differ}
 use Rattle.rules.specs.Bytes.{word}
-use Rattle.rules.specs.Tables.{headSize, places, holder, volume, source, filled, Fill}
-use Rattle.rules.specs.Roster.{Slot, roster, kindOf, firstTransport, storage}
+use Rattle.rules.specs.Tables.{headSize, elementSize, mostElements, places, holder, volume, source, panel, emptyShelves, filled, Fill, Recount}
+use Rattle.rules.specs.Roster.{Slot, roster, kindOf, firstTransport, transport, storage}
 use Rattle.rules.specs.Order.{Verdict, refused, conflict, good, other}
 use Rattle.order.specs.declared.Cause.the-variants.{WrongAddress, SourceEmpty, DestinationFull}
 use Rattle.order.specs.Ending.{reason}
 use Rattle.tables.specs.declared.Range.{Range}
-use Rattle.tables.specs.declared.Types.the-variants.{Transport, Place}
+use Rattle.tables.specs.declared.Spot.{Spot}
+use Rattle.tables.specs.declared.Types.the-variants.{Transport}
 use Rattle.tables.specs.Ranges.{Runs}
-use Rattle.tables.specs.LookUp.{found, onFound}
+use Rattle.tables.specs.LookUp.{found, onFound, spotOf}
 use Rattle.moves.specs.declared.Ruling.{Ruling}
 use Rattle.moves.specs.declared.Ruling.the-variants.{Move, Exchange, Refused, Conflict}
 
@@ -24,40 +25,42 @@ unfoldable pub armAt : List Slot → ℕ → ℕ
 armAt ss a = when (eqb a 0) (firstTransport ss) a
 
 -- "a volume leaving a storage element takes that address; leaving any other, it keeps the source it had, none included": of the volume at
--- an address and its place
-unfoldable pub shelfAt : List Slot → List ℕ → ℕ → ℕ → ℕ
-shelfAt ss elements a p = when (eqb (kindOf ss a) storage) a (source elements p)
+-- an address, by the type and place there
+unfoldable pub shelfAt : List ℕ → ℕ → Spot → ℕ
+shelfAt elements a p = when (eqb (p .kind) storage) a (source elements (p .place))
 
 -- ---- what an answer means on the elements as they were: the volumes that it carries come from the addresses of the block
 
-unfoldable pub meaning : List Slot → List ℕ → ℕ → List ℕ → Ruling → Verdict
-meaning ss elements h block (Move p q v) = good h (Fill p 0 0 0 ∷ Fill q v (shelfAt ss elements (word block 4) p) 0 ∷ [])
-meaning ss elements h block (Exchange p q r v w) =
+unfoldable pub meaning : List ℕ → ℕ → List ℕ → Ruling → Verdict
+meaning elements h block (Move p q v) =
+    good h (Fill (p .place) 0 0 0 ∷ Fill (q .place) v (shelfAt elements (word block 4) p) 0 ∷ Recount ∷ [])
+meaning elements h block (Exchange p q r v w) =
     good h
-    (Fill p 0 0 0
-    ∷ Fill q 0 0 0
-    ∷ Fill r w (shelfAt ss elements (word block 6) q) 0
-    ∷ Fill q v (shelfAt ss elements (word block 4) p) 0
+    (Fill (p .place) 0 0 0
+    ∷ Fill (q .place) 0 0 0
+    ∷ Fill (r .place) w (shelfAt elements (word block 6) q) 0
+    ∷ Fill (q .place) v (shelfAt elements (word block 4) p) 0
+    ∷ Recount
     ∷ [])
-meaning ss elements h block (Refused cause) = refused h (reason cause)
-meaning ss elements h block Conflict = conflict h
+meaning elements h block (Refused cause) = refused h (reason cause)
+meaning elements h block Conflict = conflict h
 
 -- the places of an answer are below n
 abbrev pub Within : ℕ → Ruling → Type 0
-Within n (Move p q v) = (p < n) × (q < n)
-Within n (Exchange p q r v w) = (p < n) × ((q < n) × (r < n))
+Within n (Move p q v) = (p .place < n) × (q .place < n)
+Within n (Exchange p q r v w) = (p .place < n) × ((q .place < n) × (r .place < n))
 Within n (Refused cause) = Unit {0}
 Within n Conflict = Unit {0}
 
 -- ---- steps 6 to 8, by places
 
-unfoldable pub moveAt : List ℕ → ℕ → ℕ → ℕ → ℕ → Ruling
+unfoldable pub moveAt : List ℕ → ℕ → ℕ → Spot → Spot → Ruling
 moveAt elements h arm p q =
     when (other h (holder elements arm)) Conflict
-    (when (other h (holder elements p)) Conflict
-    (when (other h (holder elements q)) Conflict
-    (when (eqb (volume elements p) 0) (Refused SourceEmpty)
-    (when (differ (volume elements q) 0) (Refused DestinationFull) (Move p q (volume elements p))))))
+    (when (other h (holder elements (p .place))) Conflict
+    (when (other h (holder elements (q .place))) Conflict
+    (when (eqb (volume elements (p .place)) 0) (Refused SourceEmpty)
+    (when (differ (volume elements (q .place)) 0) (Refused DestinationFull) (Move p q (volume elements (p .place)))))))
 
 unfoldable pub exchangeHeld : List ℕ → ℕ → ℕ → ℕ → ℕ → ℕ → Bool
 exchangeHeld elements h arm p q r =
@@ -67,30 +70,35 @@ exchangeHeld elements h arm p q r =
 unfoldable pub hinders : List ℕ → ℕ → Bool → Bool
 hinders elements r same = when same false (differ (volume elements r) 0)
 
-unfoldable pub exchangeAt : List ℕ → ℕ → ℕ → ℕ → ℕ → ℕ → Bool → Ruling
+unfoldable pub exchangeAt : List ℕ → ℕ → ℕ → Spot → Spot → Spot → Bool → Ruling
 exchangeAt elements h arm p q r same =
-    when (exchangeHeld elements h arm p q r) Conflict
-    (when (eqb (volume elements p) 0) (Refused SourceEmpty)
-    (when (eqb (volume elements q) 0) (Refused SourceEmpty)
-    (when (hinders elements r same) (Refused DestinationFull) (Exchange p q r (volume elements p) (volume elements q)))))
+    when (exchangeHeld elements h arm (p .place) (q .place) (r .place)) Conflict
+    (when (eqb (volume elements (p .place)) 0) (Refused SourceEmpty)
+    (when (eqb (volume elements (q .place)) 0) (Refused SourceEmpty)
+    (when (hinders elements (r .place) same) (Refused DestinationFull)
+    (Exchange p q r (volume elements (p .place)) (volume elements (q .place))))))
 
 -- ---- steps 5 to 8
 
 abbrev pub wrong : Ruling
 wrong = Refused WrongAddress
 
+-- "Source and destination must be elements and no transport": type and place of an address, and what is judged by them
+unfoldable pub onPlace : List Slot → ℕ → (Spot → Ruling) → Ruling
+onPlace ss a f = when (leb (kindOf ss a) transport) wrong (f (spotOf ss a))
+
 unfoldable pub moveBy : List Slot → List ℕ → ℕ → List ℕ → Ruling
 moveBy ss elements h block =
     onFound (found Transport ss (armAt ss (word block 2)))
-    (λ arm. onFound (found Place ss (word block 4)) (λ p. onFound (found Place ss (word block 6)) (λ q. moveAt elements h arm p q) wrong) wrong) wrong
+    (λ arm. onPlace ss (word block 4) (λ p. onPlace ss (word block 6) (λ q. moveAt elements h arm p q))) wrong
 
 -- the three places of an exchange
 unfoldable pub exchangeSpots : List Slot → List ℕ → ℕ → List ℕ → ℕ → Ruling
 exchangeSpots ss elements h block arm =
-    onFound (found Place ss (word block 4))
-    (λ p. onFound (found Place ss (word block 6))
-    (λ q. onFound (found Place ss (word block 8))
-    (λ r. when (eqb (word block 6) (word block 4)) wrong (exchangeAt elements h arm p q r (eqb (word block 8) (word block 4)))) wrong) wrong) wrong
+    onPlace ss (word block 4)
+    (λ p. onPlace ss (word block 6)
+    (λ q. onPlace ss (word block 8)
+    (λ r. when (eqb (word block 6) (word block 4)) wrong (exchangeAt elements h arm p q r (eqb (word block 8) (word block 4))))))
 
 unfoldable pub exchangeBy : List Slot → List ℕ → ℕ → List ℕ → Ruling
 exchangeBy ss elements h block =
@@ -102,15 +110,43 @@ exchangeBy ss elements h block =
 unfoldable pub shifted : List ℕ → ℕ → ℕ → ℕ → ℕ → List ℕ
 shifted elements p q v s = filled (filled elements p 0 0 0) q v s 0
 
-unfoldable pub carried : List Slot → List ℕ → List ℕ → ℕ → ℕ → ℕ → List ℕ
-carried ss elements block p q v = shifted elements p q v (shelfAt ss elements (word block 4) p)
+unfoldable pub carried : List ℕ → List ℕ → Spot → Spot → ℕ → List ℕ
+carried elements block p q v = shifted elements (p .place) (q .place) v (shelfAt elements (word block 4) p)
 
-unfoldable pub swapped : List Slot → List ℕ → List ℕ → ℕ → ℕ → ℕ → ℕ → ℕ → List ℕ
-swapped ss elements block p q r v w =
-    filled (shifted (filled elements p 0 0 0) q r w (shelfAt ss elements (word block 6) q)) q v (shelfAt ss elements (word block 4) p) 0
+unfoldable pub swapped : List ℕ → List ℕ → Spot → Spot → Spot → ℕ → ℕ → List ℕ
+swapped elements block p q r v w =
+    filled (shifted (filled elements (p .place) 0 0 0) (q .place) (r .place) w (shelfAt elements (word block 6) q)) (q .place) v
+    (shelfAt elements (word block 4) p) 0
+
+-- ---- "how many storage elements are empty", by adding and taking away
+
+-- 1 for a shelf, 0 for an element of another type
+abbrev pub shelf : ℕ → ℕ
+shelf kind = when (eqb kind storage) 1 0
+
+-- the empty shelves are n; one more where a shelf is left, one fewer where one is filled
+abbrev pub Tally : List Slot → List ℕ → ℕ → Spot → Spot → Type 0
+Tally ss elements n left filled = emptyShelves ss elements + shelf (filled .kind) ≡ n + shelf (left .kind)
+
+-- carried out, an answer leaves so many of n: the first destination of an exchange is full before and after
+abbrev pub Tallies : List Slot → List ℕ → List ℕ → ℕ → Ruling → Type 0
+Tallies ss elements block n (Move p q v) = Tally ss (carried elements block p q v) n p q
+Tallies ss elements block n (Exchange p q r v w) = Tally ss (swapped elements block p q r v w) n p r
+Tallies ss elements block n (Refused cause) = Unit {0}
+Tallies ss elements block n Conflict = Unit {0}
+
+-- what carrying an answer out stands on
+pub record Able (head elements block : List ℕ) (ruling : Ruling) : Type 0 where
+  pub head-length : headSize ≤ length head
+  pub block-length : length block ≡ 12
+  pub few : panel head ≤ mostElements
+  pub within : Within (places elements) ruling
+  pub tallies : Tallies (roster head) elements block (panel head) ruling
 
 -- what moves need of sound tables
 pub record Ready (runs : List Range) (head elements : List ℕ) : Type 0 where
   pub head-length : headSize ≤ length head
   pub runs-are : Runs runs head
-  pub records : length (roster head) ≡ places elements
+  pub records : length elements ≡ elementSize * length (roster head)
+  pub few : length (roster head) ≤ mostElements
+  pub panel-true : panel head ≡ emptyShelves (roster head) elements

@@ -3,31 +3,32 @@ use order::Cause;
 use order::Reply;
 use tables::Found;
 use tables::Range;
+use tables::Spot;
 use tables::Types;
 ghost use mathlib.Core.Path.{_≡_};
 ghost use mathlib.Core.List.{List};
-ghost use Prim.Native.Nat.{ℕ, _<_, _≤_};
+ghost use Prim.Native.Nat.{ℕ, _+_, _-_, _<_, _≤_};
 ghost use lib.ListN.{length};
-ghost use Rattle.rules.specs.Tables.{headSize, hosts, places, holder, lent, Rest};
+ghost use Rattle.rules.specs.Tables.{headSize, mostElements, hosts, places, holder, panel, shown, lent, Rest};
 ghost use Rattle.rules.specs.Order.{other, outcome};
 ghost use Rattle.rules.specs.Moves.{move as moveVerdict, exchange as exchangeVerdict};
 ghost use Rattle.order.specs.Ending.{ended};
 ghost use Rattle.tables.specs.Ranges.{laid};
 ghost use Rattle.tables.specs.LookUp.{found};
 ghost use Rattle.tables.specs.declared.Types.the-variants.{Transport};
-ghost use Rattle.moves.specs.Judged.{armAt, shelfAt, meaning, Within, moveAt, exchangeHeld, hinders, exchangeAt, moveBy, exchangeSpots, exchangeBy, shifted, carried, swapped, Ready};
+ghost use Rattle.moves.specs.Judged.{armAt, shelfAt, meaning, Within, moveAt, exchangeHeld, hinders, exchangeAt, moveBy, exchangeSpots, exchangeBy, shifted, carried, swapped, shelf, Able, Ready};
 
-// What a command comes to: the places to carry from and to with the volumes that stand there, a refusal with its cause, or a conflict.
+// What a command comes to: types and places of the elements to carry from and to with the volumes that stand there, a refusal with its cause, or a conflict.
 pub enum Ruling {
     Move {
-        from: usize,
-        to: usize,
+        from: Spot,
+        to: Spot,
         volume: u16,
     },
     Exchange {
-        from: usize,
-        first: usize,
-        second: usize,
+        from: Spot,
+        first: Spot,
+        second: Spot,
         brought: u16,
         displaced: u16,
     },
@@ -53,28 +54,28 @@ fn place_held(elements: &[u8], host: u8, place: usize) -> bool
     order::other(host, tables::element::holder(elements, place))
 }
 
-// MOVE, steps 6 to 8: the transport's place, the source's, the destination's.
-fn move_at(elements: &[u8], host: u8, arm: usize, from: usize, to: usize) -> Ruling
+// MOVE, steps 6 to 8: the transport's place, the source, the destination.
+fn move_at(elements: &[u8], host: u8, arm: usize, from: Spot, to: Spot) -> Ruling
     requires { ⌜ arm < places (now elements) ⌝ }
-    requires { ⌜ from < places (now elements) ⌝ }
-    requires { ⌜ to < places (now elements) ⌝ }
+    requires { ⌜ from .place < places (now elements) ⌝ }
+    requires { ⌜ to .place < places (now elements) ⌝ }
     ensures { λ r. ⌜ r ≡ moveAt (now (elements .entry)) host arm from to ⌝ }
     ensures { λ r. ⌜ Within (places (now (elements .entry))) r ⌝ }
 {
     if place_held(elements, host, arm) {
         return Ruling::Conflict;
     }
-    if place_held(elements, host, from) {
+    if place_held(elements, host, from.place) {
         return Ruling::Conflict;
     }
-    if place_held(elements, host, to) {
+    if place_held(elements, host, to.place) {
         return Ruling::Conflict;
     }
-    let volume = tables::element::volume(elements, from);
+    let volume = tables::element::volume(elements, from.place);
     if volume == 0 {
         return Ruling::Refused(Cause::SourceEmpty);
     }
-    if tables::element::volume(elements, to) != 0 {
+    if tables::element::volume(elements, to.place) != 0 {
         return Ruling::Refused(Cause::DestinationFull);
     }
     Ruling::Move { from, to, volume }
@@ -90,12 +91,14 @@ fn judge_move(runs: [Range; 4], elements: &[u8], host: u8, block: &[u8]) -> Ruli
     let Found::At(arm) = arm_of(runs, wire::word_at(block, 2)) else {
         return Ruling::Refused(Cause::WrongAddress);
     };
-    let Found::At(from) = tables::find(runs, wire::word_at(block, 4) as u32, Types::Place) else {
+    let from = tables::spot_of(runs, wire::word_at(block, 4) as u32);
+    if from.kind <= layout::TRANSPORT {
         return Ruling::Refused(Cause::WrongAddress);
-    };
-    let Found::At(to) = tables::find(runs, wire::word_at(block, 6) as u32, Types::Place) else {
+    }
+    let to = tables::spot_of(runs, wire::word_at(block, 6) as u32);
+    if to.kind <= layout::TRANSPORT {
         return Ruling::Refused(Cause::WrongAddress);
-    };
+    }
     move_at(elements, host, arm, from, to)
 }
 
@@ -142,30 +145,30 @@ fn exchange_at(
     elements: &[u8],
     host: u8,
     arm: usize,
-    from: usize,
-    first: usize,
-    second: usize,
+    from: Spot,
+    first: Spot,
+    second: Spot,
     same: bool,
 ) -> Ruling
     requires { ⌜ arm < places (now elements) ⌝ }
-    requires { ⌜ from < places (now elements) ⌝ }
-    requires { ⌜ first < places (now elements) ⌝ }
-    requires { ⌜ second < places (now elements) ⌝ }
+    requires { ⌜ from .place < places (now elements) ⌝ }
+    requires { ⌜ first .place < places (now elements) ⌝ }
+    requires { ⌜ second .place < places (now elements) ⌝ }
     ensures { λ r. ⌜ r ≡ exchangeAt (now (elements .entry)) host arm from first second same ⌝ }
     ensures { λ r. ⌜ Within (places (now (elements .entry))) r ⌝ }
 {
-    if exchange_held(elements, host, arm, from, first, second) {
+    if exchange_held(elements, host, arm, from.place, first.place, second.place) {
         return Ruling::Conflict;
     }
-    let brought = tables::element::volume(elements, from);
+    let brought = tables::element::volume(elements, from.place);
     if brought == 0 {
         return Ruling::Refused(Cause::SourceEmpty);
     }
-    let displaced = tables::element::volume(elements, first);
+    let displaced = tables::element::volume(elements, first.place);
     if displaced == 0 {
         return Ruling::Refused(Cause::SourceEmpty);
     }
-    if hinders(elements, second, same) {
+    if hinders(elements, second.place, same) {
         return Ruling::Refused(Cause::DestinationFull);
     }
     Ruling::Exchange {
@@ -188,15 +191,18 @@ fn exchange_spots(runs: [Range; 4], elements: &[u8], host: u8, block: &[u8], arm
     let source = wire::word_at(block, 4);
     let nearer = wire::word_at(block, 6);
     let farther = wire::word_at(block, 8);
-    let Found::At(from) = tables::find(runs, source as u32, Types::Place) else {
+    let from = tables::spot_of(runs, source as u32);
+    if from.kind <= layout::TRANSPORT {
         return Ruling::Refused(Cause::WrongAddress);
-    };
-    let Found::At(first) = tables::find(runs, nearer as u32, Types::Place) else {
+    }
+    let first = tables::spot_of(runs, nearer as u32);
+    if first.kind <= layout::TRANSPORT {
         return Ruling::Refused(Cause::WrongAddress);
-    };
-    let Found::At(second) = tables::find(runs, farther as u32, Types::Place) else {
+    }
+    let second = tables::spot_of(runs, farther as u32);
+    if second.kind <= layout::TRANSPORT {
         return Ruling::Refused(Cause::WrongAddress);
-    };
+    }
     if nearer == source {
         return Ruling::Refused(Cause::WrongAddress);
     }
@@ -217,82 +223,95 @@ fn judge_exchange(runs: [Range; 4], elements: &[u8], host: u8, block: &[u8]) -> 
 }
 
 // "a volume leaving a storage element takes that address; leaving any other, it keeps the source it had, none included"
-fn shelf_of(runs: [Range; 4], elements: &[u8], address: u16, place: usize) -> u16
-    requires { ⌜ place < places (now elements) ⌝ }
-    ensures { λ r. ⌜ r ≡ shelfAt (laid runs) (now (elements .entry)) address place ⌝ }
+fn shelf_of(elements: &[u8], address: u16, left: Spot) -> u16
+    requires { ⌜ left .place < places (now elements) ⌝ }
+    ensures { λ r. ⌜ r ≡ shelfAt (now (elements .entry)) address left ⌝ }
 {
-    let kept = tables::element::source(elements, place);
-    if tables::kind_of(runs, address) == layout::STORAGE {
+    let kept = tables::element::source(elements, left.place);
+    if left.kind == layout::STORAGE {
         return address;
     }
     kept
 }
 
 // The volume goes from one place to another with a source: "The place left has volume 0, source 0, mark 0".
-fn shift(elements: &mut [u8], from: usize, to: usize, volume: u16, shelf: u16)
-    requires { ⌜ from < places (now elements) ⌝ }
-    requires { ⌜ to < places (now elements) ⌝ }
-    ensures { λ _. ⌜ now (elements .exit) ≡ shifted (now (elements .entry)) from to volume shelf ⌝ }
+fn shift(elements: &mut [u8], from: Spot, to: Spot, volume: u16, shelf: u16)
+    requires { ⌜ from .place < places (now elements) ⌝ }
+    requires { ⌜ to .place < places (now elements) ⌝ }
+    ensures { λ _. ⌜ now (elements .exit) ≡ shifted (now (elements .entry)) (from .place) (to .place) volume shelf ⌝ }
 {
-    tables::element::fill(elements, from, 0, 0, 0);
-    tables::element::fill(elements, to, volume, shelf, 0);
+    tables::element::fill(elements, from.place, 0, 0, 0);
+    tables::element::fill(elements, to.place, volume, shelf, 0);
 }
 
 // The volume's source is read before a place is written.
-fn carry(runs: [Range; 4], elements: &mut [u8], block: &[u8], from: usize, to: usize, volume: u16)
+fn carry(elements: &mut [u8], block: &[u8], from: Spot, to: Spot, volume: u16)
     requires { ⌜ length (now block) ≡ 12 ⌝ }
-    requires { ⌜ from < places (now elements) ⌝ }
-    requires { ⌜ to < places (now elements) ⌝ }
-    ensures { λ _. ⌜ now (elements .exit) ≡ carried (laid runs) (now (elements .entry)) (now (block .entry)) from to volume ⌝ }
+    requires { ⌜ from .place < places (now elements) ⌝ }
+    requires { ⌜ to .place < places (now elements) ⌝ }
+    ensures { λ _. ⌜ now (elements .exit) ≡ carried (now (elements .entry)) (now (block .entry)) from to volume ⌝ }
 {
-    let shelf = shelf_of(runs, elements, wire::word_at(block, 4), from);
+    let shelf = shelf_of(elements, wire::word_at(block, 4), from);
     shift(elements, from, to, volume, shelf);
 }
 
 // Both volumes and their sources are read before a place is written.
 fn swap(
-    runs: [Range; 4],
     elements: &mut [u8],
     block: &[u8],
-    from: usize,
-    first: usize,
-    second: usize,
+    from: Spot,
+    first: Spot,
+    second: Spot,
     brought: u16,
     displaced: u16,
 )
     requires { ⌜ length (now block) ≡ 12 ⌝ }
-    requires { ⌜ from < places (now elements) ⌝ }
-    requires { ⌜ first < places (now elements) ⌝ }
-    requires { ⌜ second < places (now elements) ⌝ }
-    ensures { λ _. ⌜ now (elements .exit) ≡ swapped (laid runs) (now (elements .entry)) (now (block .entry)) from first second brought displaced ⌝ }
+    requires { ⌜ from .place < places (now elements) ⌝ }
+    requires { ⌜ first .place < places (now elements) ⌝ }
+    requires { ⌜ second .place < places (now elements) ⌝ }
+    ensures { λ _. ⌜ now (elements .exit) ≡ swapped (now (elements .entry)) (now (block .entry)) from first second brought displaced ⌝ }
 {
     let source = wire::word_at(block, 4);
     let nearer = wire::word_at(block, 6);
-    let displaced_shelf = shelf_of(runs, elements, nearer, first);
-    let brought_shelf = shelf_of(runs, elements, source, from);
-    tables::element::fill(elements, from, 0, 0, 0);
+    let displaced_shelf = shelf_of(elements, nearer, first);
+    let brought_shelf = shelf_of(elements, source, from);
+    tables::element::fill(elements, from.place, 0, 0, 0);
     shift(elements, first, second, displaced, displaced_shelf);
-    tables::element::fill(elements, first, brought, brought_shelf, 0);
+    tables::element::fill(elements, first.place, brought, brought_shelf, 0);
+}
+
+// One for a shelf, none for an element of another type.
+fn shelf(kind: u8) -> u16
+    ensures { λ r. ⌜ r ≡ shelf kind ⌝ }
+{
+    if kind == layout::STORAGE {
+        return 1;
+    }
+    0
+}
+
+// "Every move, exchange .. keeps it true": one more shelf is empty where one was left, one fewer where one was filled. Nothing is counted again.
+fn recount(head: &mut [u8], left: u8, filled: u8)
+    requires { ⌜ headSize ≤ length (now head) ⌝ }
+    requires { ⌜ panel (now head) ≤ mostElements ⌝ }
+    requires { ⌜ shelf filled ≤ panel (now head) + shelf left ⌝ }
+    ensures { λ _. ⌜ now (head .exit) ≡ shown (now (head .entry)) (panel (now (head .entry)) + shelf left - shelf filled) ⌝ }
+{
+    let more = tables::head::panel(head) + shelf(left);
+    tables::head::show(head, more - shelf(filled));
 }
 
 // Carries out what was judged.
-fn carry_out(
-    runs: [Range; 4],
-    head: &mut [u8],
-    elements: &mut [u8],
-    host: u8,
-    block: &[u8],
-    ruling: Ruling,
-) -> Reply
-    requires { ⌜ headSize ≤ length (now head) ⌝ }
+fn carry_out(head: &mut [u8], elements: &mut [u8], host: u8, block: &[u8], ruling: Ruling) -> Reply
+    requires { ⌜ Able (now head) (now elements) (now block) ruling ⌝ }
+    requires { ⌜ 1 ≤ host ⌝ }
     requires { ⌜ host ≤ hosts ⌝ }
-    requires { ⌜ length (now block) ≡ 12 ⌝ }
-    requires { ⌜ Within (places (now elements)) ruling ⌝ }
-    ensures { λ r. ⌜ ((rest : Rest) (buffer : List ℕ) → ended r (lent (now (head .exit)) (now (elements .exit)) rest) buffer ≡ outcome (lent (now (head .entry)) (now (elements .entry)) rest) buffer (meaning (laid runs) (now (elements .entry)) host (now (block .entry)) ruling)) ⌝ }
+    ensures { λ r. ⌜ ((rest : Rest) (buffer : List ℕ) → ended r (lent (now (head .exit)) (now (elements .exit)) rest) buffer ≡ outcome (lent (now (head .entry)) (now (elements .entry)) rest) buffer (meaning (now (elements .entry)) host (now (block .entry)) ruling)) ⌝ }
 {
     match ruling {
         Ruling::Move { from, to, volume } => {
-            carry(runs, elements, block, from, to, volume);
+            carry(elements, block, from, to, volume);
+            recount(head, from.kind, to.kind);
             return order::good(head, host);
         }
         Ruling::Exchange {
@@ -302,16 +321,8 @@ fn carry_out(
             brought,
             displaced,
         } => {
-            swap(
-                runs,
-                elements,
-                block,
-                from,
-                first,
-                second,
-                brought,
-                displaced,
-            );
+            swap(elements, block, from, first, second, brought, displaced);
+            recount(head, from.kind, second.kind);
             return order::good(head, host);
         }
         Ruling::Refused(cause) => {
@@ -332,12 +343,13 @@ pub fn move_medium(
     block: &[u8],
 ) -> Reply
     requires { ⌜ Ready runs (now head) (now elements) ⌝ }
+    requires { ⌜ 1 ≤ host ⌝ }
     requires { ⌜ host ≤ hosts ⌝ }
     requires { ⌜ length (now block) ≡ 12 ⌝ }
     ensures { λ r. ⌜ ((rest : Rest) (buffer : List ℕ) → ended r (lent (now (head .exit)) (now (elements .exit)) rest) buffer ≡ outcome (lent (now (head .entry)) (now (elements .entry)) rest) buffer (moveVerdict (lent (now (head .entry)) (now (elements .entry)) rest) host (now (block .entry)))) ⌝ }
 {
     let ruling = judge_move(runs, elements, host, block);
-    carry_out(runs, head, elements, host, block, ruling)
+    carry_out(head, elements, host, block, ruling)
 }
 
 // EXCHANGE MEDIUM from step 5 on.
@@ -349,10 +361,11 @@ pub fn exchange_medium(
     block: &[u8],
 ) -> Reply
     requires { ⌜ Ready runs (now head) (now elements) ⌝ }
+    requires { ⌜ 1 ≤ host ⌝ }
     requires { ⌜ host ≤ hosts ⌝ }
     requires { ⌜ length (now block) ≡ 12 ⌝ }
     ensures { λ r. ⌜ ((rest : Rest) (buffer : List ℕ) → ended r (lent (now (head .exit)) (now (elements .exit)) rest) buffer ≡ outcome (lent (now (head .entry)) (now (elements .entry)) rest) buffer (exchangeVerdict (lent (now (head .entry)) (now (elements .entry)) rest) host (now (block .entry)))) ⌝ }
 {
     let ruling = judge_exchange(runs, elements, host, block);
-    carry_out(runs, head, elements, host, block, ruling)
+    carry_out(head, elements, host, block, ruling)
 }

@@ -9,14 +9,15 @@ use lib.ListN.{length}
 use lib.Dec.{leb}
 use borrow.Author.Tests.{leb-true}
 use Rattle.rules.specs.Choice.{when, differ}
-use Rattle.rules.specs.Tables.{Tables, volume, source}
+use Rattle.rules.specs.Roster.{roster}
+use Rattle.rules.specs.Tables.{Tables, volume, source, panel, emptyShelves}
 use Rattle.rules.specs.Sound.{sound}
 use Rattle.rules.specs.Order.{Outcome, GOOD, CHECK-CONDITION, RESERVATION-CONFLICT}
-use Rattle.rules.specs.Command.{Request, Call, Command, Import, Export, serve}
+use Rattle.rules.specs.Command.{Request, Call, Command, Import, Export, Reset, serve}
 use Rattle.rules.specs.Numbers.{conditions, Foremost}
 use Rattle.rules.specs.Histories.{next, History, begun, called, imports, exports, Reply, toldTo, runRequests, replies, Mixing, none, left, right, named, From, end, more, Apart}
 use Rattle.rules.specs.Shelves.{lastShelf, sourceIn}
-use Rattle.rules.specs.Small.{element, empty, loaded, elementsOf, library, quietHead, small, moveBlock, readBlock, sends, asks, lentBuffer, refuses}
+use Rattle.rules.specs.Small.{element, empty, loaded, elementsOf, library, quietShowing, quietHead, small, moveBlock, exchangeBlock, readBlock, sends, asks, lentBuffer, refuses}
 use Rattle.rules.specs.Cases.{Case, numbers, eventNumbers, twice, laden, locked, addressPage, geometryPage, capabilityPage, wholeModes, modeBlock}
 use Rattle.rules.proofs.Ladder.{differ-true}
 use Rattle.rules.proofs.Same.{unfit-names-none}
@@ -36,6 +37,7 @@ use Rattle.promises.proofs.Demand3.{demand3, runs-are-histories}
 use Rattle.promises.proofs.Sequences.{sequences}
 use Rattle.promises.proofs.Volumes.{volumes-promised, never-twice}
 use Rattle.promises.proofs.Shelves.{last-shelf}
+use Rattle.promises.proofs.Panel.{panel-true}
 
 -- ---- a test at every member of a list
 
@@ -69,7 +71,7 @@ small-sound = refl
 p1 : Call
 p1 = asks (moveBlock 0x1000 0x0100)
 
-p1-moves : next small p1 ≡ library quietHead (elementsOf empty (element 1 0x1000 0 0 0) empty empty (loaded 2) empty)
+p1-moves : next small p1 ≡ library (quietShowing 3) (elementsOf empty (element 1 0x1000 0 0 0) empty empty (loaded 2) empty)
 unfolding opened p1
 p1-moves = refl
 
@@ -340,6 +342,38 @@ short-told : replies 1 small (short 1 ∷ []) ≡ answer 3 ∷ []
 unfolding opened short answer
 short-told = refl
 
+-- "Demand 3's final tables include it": each host takes a volume off a shelf, and in either order the panel shows both shelves
+off₁ : Request
+off₁ = sent 1 0x1000 0x0100
+
+off₂ : Request
+off₂ = sent 2 0x1002 0x0010
+
+-- no address of the one is one of the other's
+differing : Request → Request → Bool
+differing x y = every (λ a. every (differ a) (named (y .block))) (named (x .block))
+
+off-differ : every (λ x. every (differing x) (off₂ ∷ [])) (off₁ ∷ []) ≡ true
+unfolding every differing opened off₁ off₂ sent
+off-differ = refl
+
+off-apart : Apart (off₁ ∷ []) (off₂ ∷ [])
+unfolding differing
+off-apart x y m n a i j =
+    let pair : differing x y ≡ true = at-each (differing x) _ (at-each (λ x. every (differing x) (off₂ ∷ [])) _ off-differ x m) y n in
+    differ-true a a (at-each (differ a) _ (at-each (λ a. every (differ a) (named (y .block))) _ pair a i) a j) refl
+
+off-mixed : AsIfAlone 1 2 (off₁ ∷ []) (off₂ ∷ []) (off₂ ∷ off₁ ∷ []) small
+unfolding opened off₁ off₂ sent
+off-mixed = demand3 1 2 (λ e. omega arith) _ _ _ (more refl refl end) (more refl refl end) off-apart (right (left none)) small
+
+off-after : panel (runRequests small (off₁ ∷ off₂ ∷ []) .head) ≡ 4
+unfolding opened off₁ off₂ sent
+off-after = refl
+
+off-either : panel (runRequests small (off₂ ∷ off₁ ∷ []) .head) ≡ 4
+off-either = ap (λ (u : Tables). panel (u .head)) (off-mixed .tables) ∙ off-after
+
 -- ---- sequences and volumes: a history with an import and an export
 
 -- volume 3 comes in and goes to a shelf, volume 1 goes out; host 1 is told of the import in between
@@ -441,8 +475,52 @@ returned-shelf = record { stands = refl; told = refl; last = refl }
 
 -- in the drive from the start, with a source: that source goes with it to the mail slot
 mounted : Tables
-mounted = library quietHead (elementsOf empty (element 1 0x1003 0 0 0) empty empty (loaded 2) empty)
+mounted = library (quietShowing 3) (elementsOf empty (element 1 0x1003 0 0 0) empty empty (loaded 2) empty)
 
 mounted-shelf : Shelved mounted (asks (moveBlock 0x0100 0x0010) ∷ []) 1 1 0x1003
 unfolding opened mounted passes gives history
 mounted-shelf = record { stands = refl; told = refl; last = refl }
+
+-- ---- the panel: how many of the four shelves are empty, after each call of a history
+
+shows : Tables → List Call → List ℕ
+shows t [] = []
+shows t (c ∷ cs) = panel (serve t c .tables .head) ∷ shows (serve t c .tables) cs
+
+-- TEST UNIT READY
+ready : Call
+ready = asks (0x00 ∷ 0 ∷ 0 ∷ 0 ∷ 0 ∷ 0 ∷ [])
+
+-- shelves are left and filled, a volume comes in, two change places, one goes out; host 1 is told of the import and of the reset
+shift : List Call
+shift =
+    asks (moveBlock 0x1000 0x0100)
+    ∷ Import 0x0010 3
+    ∷ ready
+    ∷ asks (moveBlock 0x0010 0x1001)
+    ∷ asks (exchangeBlock 0x1002 0x0100 0x0010)
+    ∷ Export 0x0010
+    ∷ Reset
+    ∷ ready
+    ∷ asks (moveBlock 0x1001 0x1003)
+    ∷ asks (moveBlock 0x0100 0x1000)
+    ∷ []
+
+shift-answered : statuses (gives small shift) ≡ 0x00 ∷ 0x00 ∷ 0x02 ∷ 0x00 ∷ 0x00 ∷ 0x00 ∷ 0x00 ∷ 0x02 ∷ 0x00 ∷ 0x00 ∷ []
+unfolding opened shift ready gives statuses
+shift-answered = refl
+
+shift-shown : shows small shift ≡ 3 ∷ 3 ∷ 3 ∷ 2 ∷ 3 ∷ 3 ∷ 3 ∷ 3 ∷ 3 ∷ 2 ∷ []
+unfolding opened shift ready shows
+shift-shown = refl
+
+shift-ends : passes small shift .elements ≡ elementsOf empty empty (element 2 0x1002 0 0 0) empty empty (element 3 0x1001 0 0 0)
+unfolding opened shift ready passes
+shift-ends = refl
+
+shift-true : panel (passes small shift .head) ≡ emptyShelves (roster (passes small shift .head)) (passes small shift .elements)
+shift-true = panel-true _ _ _ _ (history small shift) small-sound
+
+shift-empty : emptyShelves (roster (passes small shift .head)) (passes small shift .elements) ≡ 2
+unfolding opened shift ready passes
+shift-empty = refl

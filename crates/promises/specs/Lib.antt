@@ -6,5 +6,6 @@ pub mod Demand3
 pub mod Sequences
 pub mod Volumes
 pub mod Shelves
+pub mod Panel
 pub mod Listings
 pub mod Modes

@@ -1,18 +1,21 @@
--- Each change leaves sound tables sound, where what it writes fits. Assumes nothing.
-use Prim.Native.Nat.{ℕ, _<_, _≤_}
+-- Each change leaves sound tables sound, where what it writes fits: a place filled is no shelf, or the panel's number is counted again behind it.
+-- Assumes nothing.
+use Prim.Native.Nat.{ℕ, _-_, _<_, _≤_}
 use native.Mathlib.Omega.{arith}
-use mathlib.Core.Path.{_≡_}
+use mathlib.Core.Path.{_≡_, sym, _∙_}
 use mathlib.Core.Logic.{_≢_}
 use mathlib.Core.List.{List}
 use lib.ListN.{length}
 use Rattle.rules.specs.Bytes.{byte}
-use Rattle.rules.specs.Tables.{Tables, lent, hosts, unitAt, volumes, unit, volume, holder, HeadChange, NewSense, NewAttention, NewForAll, NewUnit, NewMask, ElementChange, NewStock, NewHolds, NewlyFree, Change, OfHead, OfElements, inHead, inElements, change, changes}
-use Rattle.rules.specs.Roster.{roster, kindAt}
+use Rattle.rules.specs.Tables.{Tables, lent, hosts, unitAt, panelAt, volumes, unit, panel, volume, holder, emptyShelves, shown, HeadChange, NewSense, NewAttention, NewForAll, NewUnit, NewMask, ElementChange, NewStock, NewHolds, NewlyFree, Change, OfHead, OfElements, Recount, inHead, inElements, change, changes}
+use Rattle.rules.specs.Roster.{roster, kindAt, storage}
 use Rattle.rules.specs.Order.{Verdict, Number, Prevented, Done}
-use Rattle.rules.proofs.Places.{SameRanges, roster-same}
-use Rattle.rules.proofs.HeadFields.{sensed-else, attended-else, announced-else, unitHeld-else, unitHeld-unit, masked-else}
-use Rattle.rules.proofs.Soundness.{SenseFits, AttentionFits, HeadFits, StockFits, HoldFits, ElementsFit, Sound}
-use Rattle.rules.proofs.KeepHead.{sensed-fits, attended-fits, announced-fits, unitHeld-fits, masked-fits}
+use Rattle.rules.proofs.Places.{SameRanges, roster-same, roster-placed}
+use Rattle.rules.proofs.HeadFields.{Off, sensed-else, attended-else, announced-else, unitHeld-else, unitHeld-unit, masked-else}
+use Rattle.rules.proofs.ElementFields.{HoldsAlone, volume-alone, held-alone, freed-alone}
+use Rattle.rules.proofs.Panel.{shelves-same, shelves-elsewhere, shown-else, shown-panel, panel-same}
+use Rattle.rules.proofs.Soundness.{SenseFits, AttentionFits, HeadFits, RestFits, StockFits, HoldFits, ElementsFit, Sound}
+use Rattle.rules.proofs.KeepHead.{sensed-fits, attended-fits, announced-fits, unitHeld-fits, masked-fits, shown-fits}
 use Rattle.rules.proofs.KeepElements.{fill-fits, held-fits, freed-fits, unit-fits}
 
 -- what a change needs of the tables, that it leave them sound
@@ -25,7 +28,8 @@ HeadFit t (NewMask m) = Unit {0}
 
 abbrev pub ElementFit : Tables → ElementChange → Type 0
 ElementFit t (NewStock p v s m) =
-    (p < length (roster (t .head))) × StockFits (volumes (t .rest .tags)) (roster (t .head)) (kindAt (roster (t .head)) p) v s m
+    (p < length (roster (t .head))) × (kindAt (roster (t .head)) p ≢ storage)
+    × StockFits (volumes (t .rest .tags)) (roster (t .head)) (kindAt (roster (t .head)) p) v s m
     × (v ≢ 0 → (q : ℕ) → q < length (roster (t .head)) → q ≢ p → volume (t .elements) q ≢ v)
 ElementFit t (NewHolds p n h i) = HoldFits (unit (t .head)) h i
 ElementFit t (NewlyFree w) = Unit {0}
@@ -33,17 +37,34 @@ ElementFit t (NewlyFree w) = Unit {0}
 abbrev pub Fit : Tables → Change → Type 0
 Fit t (OfHead c) = HeadFit t c
 Fit t (OfElements c) = ElementFit t c
+Fit t Recount = Unit {0}
 
--- ---- the head alone changes, its ranges stay
+-- all that sound tables are, whatever number the panel shows
+pub record Fitting (t : Tables) : Type 0 where
+  pub head-fits : HeadFits (t .head)
+  pub rest-fits : RestFits (t .rest)
+  pub elements-fit : ElementsFit (roster (t .head)) (unit (t .head)) (volumes (t .rest .tags)) (t .elements)
 
--- the ranges are as they were after every change of the head
-ranges-kept : (c : HeadChange) (t : Tables) → HeadFit t c → SameRanges (t .head) (inHead c (t .head))
+sound-fits : (t : Tables) → Sound t → Fitting t
+sound-fits t s = record { head-fits = s .head-fits; rest-fits = s .rest-fits; elements-fit = s .elements-fit }
+
+-- it shows how many shelves are empty
+counted-sound : (t : Tables) → Fitting t → panel (t .head) ≡ emptyShelves (roster (t .head)) (t .elements) → Sound t
+counted-sound t f e = record { head-fits = f .head-fits; rest-fits = f .rest-fits; elements-fit = f .elements-fit; panel-true = e }
+
+-- ---- the head alone changes: ranges and panel stay
+
+-- every change of the head is behind the ranges and before the panel's number
+between : (c : HeadChange) (t : Tables) → HeadFit t c → (j : ℕ) → Off unitAt (panelAt - unitAt) j → byte (inHead c (t .head)) j ≡ byte (t .head) j
 unfolding inHead
-ranges-kept (NewSense h k a q) t f j i = sensed-else (t .head) h k a q j (λ m l. omega arith)
-ranges-kept (NewAttention h a q) t f j i = attended-else (t .head) h a q j (λ m l. omega arith)
-ranges-kept (NewForAll a q) t f j i = announced-else a q (t .head) j (λ h l m n x. omega arith)
-ranges-kept (NewUnit n) t f j i = unitHeld-else (t .head) n j (omega arith)
-ranges-kept (NewMask m) t f j i = masked-else (t .head) m j (omega arith)
+between (NewSense h k a q) t f j d = sensed-else (t .head) h k a q j (λ m l e. d (j - unitAt) (omega arith) (omega arith))
+between (NewAttention h a q) t f j d = attended-else (t .head) h a q j (λ m l e. d (j - unitAt) (omega arith) (omega arith))
+between (NewForAll a q) t f j d = announced-else a q (t .head) j (λ h l m n x e. d (j - unitAt) (omega arith) (omega arith))
+between (NewUnit n) t f j d = unitHeld-else (t .head) n j (λ e. d 0 (omega arith) (omega arith))
+between (NewMask m) t f j d = masked-else (t .head) m j (λ e. d 1 (omega arith) (omega arith))
+
+ranges-kept : (c : HeadChange) (t : Tables) → HeadFit t c → SameRanges (t .head) (inHead c (t .head))
+ranges-kept c t f j i = between c t f j (λ m l. omega arith)
 
 -- who holds the unit changes with NewUnit alone
 unit-kept : (head head′ : List ℕ) → byte head′ unitAt ≡ byte head unitAt → unit head′ ≡ unit head
@@ -51,32 +72,27 @@ unfolding unit
 unit-kept head head′ e = e
 
 -- tables with another head, of the same ranges
-head-sound : (t : Tables) (head′ : List ℕ) → Sound t → HeadFits head′ → SameRanges (t .head) head′ → byte head′ unitAt ≡ byte (t .head) unitAt
-    → Sound (lent head′ (t .elements) (t .rest))
-head-sound t head′ s f r u =
+head-fitting : (t : Tables) (head′ : List ℕ) → Fitting t → HeadFits head′ → SameRanges (t .head) head′ → byte head′ unitAt ≡ byte (t .head) unitAt
+    → Fitting (lent head′ (t .elements) (t .rest))
+head-fitting t head′ s f r u =
     record {
       head-fits = f;
       rest-fits = s .rest-fits;
       elements-fit = rw (roster-same (t .head) head′ r, unit-kept (t .head) head′ u) (s .elements-fit);
     }
 
--- tables with other elements
-pub elements-sound : (t : Tables) (es : List ℕ) → Sound t → ElementsFit (roster (t .head)) (unit (t .head)) (volumes (t .rest .tags)) es
-    → Sound (lent (t .head) es (t .rest))
-elements-sound t es s f = record { head-fits = s .head-fits; rest-fits = s .rest-fits; elements-fit = f }
-
-head-change-sound : (c : HeadChange) (t : Tables) → HeadFit t c → Sound t → Sound (lent (inHead c (t .head)) (t .elements) (t .rest))
+pub head-change-fits : (c : HeadChange) (t : Tables) → HeadFit t c → Fitting t → Fitting (lent (inHead c (t .head)) (t .elements) (t .rest))
 unfolding inHead
-head-change-sound (NewSense h k a q) t (l, m, x) s =
-    head-sound t _ s (sensed-fits (t .head) h k a q (s .head-fits) l m x) (ranges-kept (NewSense h k a q) t (l, m, x))
+head-change-fits (NewSense h k a q) t (l, m, x) s =
+    head-fitting t _ s (sensed-fits (t .head) h k a q (s .head-fits) l m x) (ranges-kept (NewSense h k a q) t (l, m, x))
     (sensed-else (t .head) h k a q unitAt (λ n i. omega arith))
-head-change-sound (NewAttention h a q) t (l, m, x) s =
-    head-sound t _ s (attended-fits (t .head) h a q (s .head-fits) l m x) (ranges-kept (NewAttention h a q) t (l, m, x))
+head-change-fits (NewAttention h a q) t (l, m, x) s =
+    head-fitting t _ s (attended-fits (t .head) h a q (s .head-fits) l m x) (ranges-kept (NewAttention h a q) t (l, m, x))
     (attended-else (t .head) h a q unitAt (λ n i. omega arith))
-head-change-sound (NewForAll a q) t x s =
-    head-sound t _ s (announced-fits (t .head) a q (s .head-fits) x) (ranges-kept (NewForAll a q) t x)
+head-change-fits (NewForAll a q) t x s =
+    head-fitting t _ s (announced-fits (t .head) a q (s .head-fits) x) (ranges-kept (NewForAll a q) t x)
     (announced-else a q (t .head) unitAt (λ h l m n i. omega arith))
-head-change-sound (NewUnit n) t (l, own) s =
+head-change-fits (NewUnit n) t (l, own) s =
     record {
       head-fits = unitHeld-fits (t .head) n (s .head-fits) l;
       rest-fits = s .rest-fits;
@@ -84,19 +100,55 @@ head-change-sound (NewUnit n) t (l, own) s =
           rw (roster-same (t .head) _ (ranges-kept (NewUnit n) t (l, own)), unitHeld-unit (t .head) n (omega (arith, s .head-fits .length-is)))
           (unit-fits _ _ _ _ (s .elements-fit) n own);
     }
-head-change-sound (NewMask m) t x s =
-    head-sound t _ s (masked-fits (t .head) m (s .head-fits)) (ranges-kept (NewMask m) t x) (masked-else (t .head) m unitAt (omega arith))
+head-change-fits (NewMask m) t x s =
+    head-fitting t _ s (masked-fits (t .head) m (s .head-fits)) (ranges-kept (NewMask m) t x) (masked-else (t .head) m unitAt (omega arith))
+
+head-change-sound : (c : HeadChange) (t : Tables) → HeadFit t c → Sound t → Sound (lent (inHead c (t .head)) (t .elements) (t .rest))
+head-change-sound c t f s =
+    counted-sound _ (head-change-fits c t f (sound-fits t s))
+    (rw (roster-same (t .head) _ (ranges-kept c t f)) (panel-same (t .head) _ (λ j l. between c t f j (λ m i. omega arith)) ∙ s .panel-true))
+
+-- ---- the elements alone change: as many shelves are empty
+
+-- tables with other elements
+pub elements-fitting : (t : Tables) (es : List ℕ) → Sound t → ElementsFit (roster (t .head)) (unit (t .head)) (volumes (t .rest .tags)) es
+    → Fitting (lent (t .head) es (t .rest))
+elements-fitting t es s f = record { head-fits = s .head-fits; rest-fits = s .rest-fits; elements-fit = f }
+
+elements-sound : (t : Tables) (es : List ℕ) → Sound t → ElementsFit (roster (t .head)) (unit (t .head)) (volumes (t .rest .tags)) es
+    → emptyShelves (roster (t .head)) es ≡ emptyShelves (roster (t .head)) (t .elements) → Sound (lent (t .head) es (t .rest))
+elements-sound t es s f e = counted-sound _ (elements-fitting t es s f) (s .panel-true ∙ sym e)
+
+-- holders and ids alone
+holds-counted : (t : Tables) (es : List ℕ) → HoldsAlone (t .elements) es → emptyShelves (roster (t .head)) es ≡ emptyShelves (roster (t .head)) (t .elements)
+holds-counted t es h = shelves-same (roster (t .head)) (t .elements) es (volume-alone (t .elements) es h)
 
 element-change-sound : (c : ElementChange) (t : Tables) → ElementFit t c → Sound t → Sound (lent (t .head) (inElements c (t .elements)) (t .rest))
 unfolding inElements
-element-change-sound (NewStock p v q m) t (h, x, fresh) s = elements-sound t _ s (fill-fits _ _ _ _ (s .elements-fit) p v q m h x fresh)
-element-change-sound (NewHolds p n h i) t x s = elements-sound t _ s (held-fits _ _ _ _ p n h i (s .elements-fit) x)
-element-change-sound (NewlyFree w) t x s = elements-sound t _ s (freed-fits _ _ _ w _ (s .elements-fit))
+element-change-sound (NewStock p v q m) t (h, k, x, fresh) s =
+    elements-sound t _ s (fill-fits _ _ _ _ (s .elements-fit) p v q m h x fresh)
+    (shelves-elsewhere _ (roster-placed (t .head)) _ (s .elements-fit .length-is) p h v q m k)
+element-change-sound (NewHolds p n h i) t x s =
+    elements-sound t _ s (held-fits _ _ _ _ p n h i (s .elements-fit) x) (holds-counted t _ (held-alone (t .elements) p n h i))
+element-change-sound (NewlyFree w) t x s =
+    elements-sound t _ s (freed-fits _ _ _ w _ (s .elements-fit)) (holds-counted t _ (freed-alone w (t .elements)))
+
+-- ---- the panel's number, counted again
+
+pub recounted-sound : (t : Tables) → Fitting t → Sound (change Recount t)
+unfolding change
+recounted-sound t f =
+    let n = emptyShelves (roster (t .head)) (t .elements) in
+    let same : SameRanges (t .head) (shown (t .head) n) = λ j i. shown-else (t .head) n j (λ m l. omega arith) in
+    counted-sound _
+    (head-fitting t _ f (shown-fits (t .head) n (f .head-fits)) same (shown-else (t .head) n unitAt (λ m l. omega arith)))
+    (rw (roster-same (t .head) _ same) (shown-panel (t .head) n (omega (arith, f .head-fits .length-is))))
 
 pub change-sound : (c : Change) (t : Tables) → Fit t c → Sound t → Sound (change c t)
 unfolding change
 change-sound (OfHead c) t f s = head-change-sound c t f s
 change-sound (OfElements c) t f s = element-change-sound c t f s
+change-sound Recount t f s = recounted-sound t (sound-fits t s)
 
 -- what a verdict leaves is sound
 abbrev pub Sounds : Tables → Verdict → Type 0

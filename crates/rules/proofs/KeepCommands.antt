@@ -10,7 +10,7 @@ use lib.Dec.{eqb}
 use borrow.Author.Tests.{eqb-true, eqb-false, leb-false}
 use Rattle.rules.specs.Choice.{when, anyFrom}
 use Rattle.rules.specs.Bytes.{byte, word}
-use Rattle.rules.specs.Tables.{Tables, lent, hosts, unitAt, places, volumes, unit, attention, attentionq, volume, holder, sensed, Change, Sense, Attention, HoldUnit, Prevent, Hold, Free, Under, Every, inHead, inElements, change, changes}
+use Rattle.rules.specs.Tables.{Tables, lent, hosts, unitAt, places, volumes, unit, attention, attentionq, volume, holder, sensed, NewSense, Change, Recount, Sense, Attention, HoldUnit, Prevent, Hold, Free, Under, Every, inHead, inElements, change, changes}
 use Rattle.rules.specs.Roster.{Slot, roster, placeOf}
 use Rattle.rules.specs.Sound.{within}
 use Rattle.rules.specs.Operation.{Operation, TestUnitReady, RequestSense, Reserve, Release, PreventAllow, MoveMedium, ExchangeMedium, ReadElementStatus, ModeSense, Unknown, operation}
@@ -26,7 +26,7 @@ use Rattle.rules.proofs.Walks.{Refusals, Passed, Moving, Exchanging, te
 use Rattle.rules.proofs.Places.{roster-same}
 use Rattle.rules.proofs.HeadFields.{sensed-else}
 use Rattle.rules.proofs.Soundness.{SenseFits, ShelfOrNone, HoldFits, ElementsFit, Sound, places-is, within-low, within-high}
-use Rattle.rules.proofs.Keep.{change-sound, elements-sound, Sounds}
+use Rattle.rules.proofs.Keep.{head-change-fits, elements-fitting, recounted-sound, change-sound, Sounds}
 use Rattle.rules.proofs.KeepMoves.{Stands, stands-of, moved-fits, exchanged-fits}
 
 -- held by another: not by nobody, not by the host itself
@@ -87,12 +87,13 @@ module _ (t : Tables) (s : Sound t) (h : ℕ) (l : 1 ≤ h) (m : h ≤ hosts) wh
   unfolding prevent good changes
   prevent-sound block = change-sound (Prevent _) _ tt cleared
 
-  -- ---- MOVE and EXCHANGE: the elements change, and the host's sense is cleared
+  -- ---- MOVE and EXCHANGE: the elements change, the host's sense is cleared, and the empty shelves are counted again
 
   stood : (es : List ℕ) → ElementsFit (roster (t .head)) (unit (t .head)) (volumes (t .rest .tags)) es
-      → Sound (lent (sensed (t .head) h 0 0 0) es (t .rest))
-  unfolding change inHead inElements
-  stood es f = change-sound (Sense h 0 0 0) (lent (t .head) es (t .rest)) (l, m, no-sense) (elements-sound t es s f)
+      → Sound (change Recount (lent (sensed (t .head) h 0 0 0) es (t .rest)))
+  unfolding inHead
+  stood es f =
+      recounted-sound _ (head-change-fits (NewSense h 0 0 0) (lent (t .head) es (t .rest)) (l, m, no-sense) (elements-fitting t es s f))
 
   stands : (a : ℕ) → noPlace t a ≡ false → Stands (roster (t .head)) a
   unfolding noPlace
@@ -118,7 +119,7 @@ module _ (t : Tables) (s : Sound t) (h : ℕ) (l : 1 ≤ h) (m : h ≤ hosts) wh
       to : ℕ
       to = word block 6
 
-      moved : Moving t from to → Sounds t (good h (leave t from ∷ carry t from to ∷ []))
+      moved : Moving t from to → Sounds t (good h (leave t from ∷ carry t from to ∷ Recount ∷ []))
       moved x =
           unfold good leave carry volumeOf changes change inHead inElements in
           stood _
@@ -138,7 +139,7 @@ module _ (t : Tables) (s : Sound t) (h : ℕ) (l : 1 ≤ h) (m : h ≤ hosts) wh
       second : ℕ
       second = word block 8
 
-      exchanged : Exchanging t from first second → Sounds t (good h (leave t from ∷ leave t first ∷ carry t first second ∷ carry t from first ∷ []))
+      exchanged : Exchanging t from first second → Sounds t (good h (leave t from ∷ leave t first ∷ carry t first second ∷ carry t from first ∷ Recount ∷ []))
       exchanged x =
           unfold good leave carry volumeOf changes change inHead inElements in
           stood _

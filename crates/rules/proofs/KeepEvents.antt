@@ -52,9 +52,11 @@ module _ (t : Tables) (s : Sound t) where
           unfold wrongVolume present in
           let e₁ = any-rest _ _ e in
           let known : kindOf (roster (t .head)) a ≢ 0 = omega arith in
+          let kind = kind-in (roster (t .head)) a known ∙ k in
           let absent = any-nowhere (λ p. eqb (volume (t .elements) p) v) (places (t .elements)) 0 (any-first _ _ (any-rest _ _ e₁)) in (
             place-in (roster (t .head)) a known,
-            imported-fits (volumes (t .rest .tags)) (roster (t .head)) _ v (kind-in (roster (t .head)) a known ∙ k) (eqb-false v 0 (any-first _ _ e)) (ltb-false _ _ (any-first _ _ e₁)),
+            omega arith,
+            imported-fits (volumes (t .rest .tags)) (roster (t .head)) _ v kind (eqb-false v 0 (any-first _ _ e)) (ltb-false _ _ (any-first _ _ e₁)),
             λ _ q i _. eqb-false _ _ (absent q (omega arith) (omega (arith, places-is t s))),
           )
 
@@ -63,7 +65,9 @@ module _ (t : Tables) (s : Sound t) where
   exporting-sound a =
       atPort-sound t a _
       (λ k. on (Sounds t) _ (λ _. tt)
-      (λ _. announced-sound _ 0 0 (place-in (roster (t .head)) a (omega arith), empty-fits _ _ _, λ n. absurd (n refl))))
+      (λ _.
+      announced-sound _ 0 0
+      (place-in (roster (t .head)) a (omega arith), omega (arith, kind-in (roster (t .head)) a (omega arith)), empty-fits _ _ _, λ n. absurd (n refl))))
 
 restarted-sound : (n h : ℕ) (t : Tables) → 1 ≤ h → h + n ≤ hosts + 1 → Sound t → Sound (changes (restartedFrom n h) t)
 unfolding restartedFrom changes

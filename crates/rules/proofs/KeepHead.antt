@@ -6,10 +6,11 @@ use mathlib.Core.List.{List}
 use lib.ListN.{length}
 use lib.Dec.{eqb}
 use Rattle.rules.specs.Bytes.{byte}
-use Rattle.rules.specs.Tables.{hosts, unitAt, hostAt, attentionAt, unit, key, asc, ascq, attention, attentionq, sensed, attended, announcedTo, announced, unitHeld, masked}
+use Rattle.rules.specs.Tables.{hosts, unitAt, hostAt, attentionAt, panelAt, unit, key, asc, ascq, attention, attentionq, sensed, attended, announcedTo, announced, unitHeld, masked, shown}
 use Rattle.rules.proofs.Ladder.{on, either, each-keeps}
 use Rattle.rules.proofs.Places.{SameRanges, range-same}
 use Rattle.rules.proofs.HeadFields.{Off, sensed-length, sensed-else, sensed-key, sensed-asc, sensed-ascq, attended-length, attended-else, attended-attention, attended-attentionq, unitHeld-length, unitHeld-else, unitHeld-unit, masked-length, masked-else}
+use Rattle.rules.proofs.Panel.{shown-length, shown-else}
 use Rattle.rules.proofs.Soundness.{SenseFits, AttentionFits, HeadFits}
 
 -- a head with the same length and ranges: unit holder, senses and attentions are left to show
@@ -100,3 +101,13 @@ masked-fits head n f =
     (unit-same head _ (masked-else head n unitAt (omega arith)) (f .unit-small))
     (λ g i j. sense-same head _ g (λ b x y. masked-else head n b (omega arith)) (f .senses g i j))
     (λ g i j. attention-same head _ g (λ b x y. masked-else head n b (omega arith)) (f .attentions g i j))
+
+pub shown-fits : (head : List ℕ) (n : ℕ) → HeadFits head → HeadFits (shown head n)
+shown-fits head n f =
+    head-by head (shown head n) f (shown-length head n) (λ j i. else j (λ m x. omega arith))
+    (unit-same head _ (else unitAt (λ m x. omega arith)) (f .unit-small))
+    (λ g i j. sense-same head _ g (λ b x y. else b (λ m z. omega arith)) (f .senses g i j))
+    (λ g i j. attention-same head _ g (λ b x y. else b (λ m z. omega arith)) (f .attentions g i j))
+  where
+    else : (j : ℕ) → Off panelAt 2 j → byte (shown head n) j ≡ byte head j
+    else = shown-else head n

@@ -6,6 +6,7 @@ pub mod Places
 pub mod Soundness
 pub mod HeadFields
 pub mod ElementFields
+pub mod Panel
 pub mod Local
 pub mod Operations
 pub mod Walks
@@ -20,6 +21,7 @@ pub mod KeepEvents
 pub mod Keeps
 pub mod Untouched
 pub mod Numbers
+pub mod Recounts
 pub mod Same
 pub mod Frame
 pub mod Mix

@@ -1,5 +1,5 @@
 -- Writes that stay within some bytes: they leave every other byte alone, and two that have no byte in common change places. Which bytes a host or an
--- element has is said here alone. Assumes nothing.
+-- element has, and the panel's number, is said here alone. Assumes nothing.
 use Prim.Native.Nat.{ℕ, _+_, _<_, _≤_}
 use native.Mathlib.Omega.{arith}
 use mathlib.Core.Path.{_≡_, refl, sym, ap, _∙_}
@@ -7,7 +7,7 @@ use mathlib.Core.Logic.{_≢_}
 use mathlib.Core.List.{List, [], _∷_}
 use lib.ListN.{length}
 use Rattle.rules.specs.Bytes.{byte, put, high, low}
-use Rattle.rules.specs.Tables.{hostAt, attentionAt, elementAt, elementSize, sensed, attended, filled, NewSense, NewAttention, NewStock, inHead, inElements}
+use Rattle.rules.specs.Tables.{headSize, hostAt, attentionAt, panelAt, elementAt, elementSize, sensed, attended, shown, filled, NewSense, NewAttention, NewStock, inHead, inElements}
 use Rattle.rules.proofs.Writes.{put-length, byte-put, put-put}
 
 pub record Put : Type 0 where
@@ -75,10 +75,13 @@ module _ (W X : ℕ → Type 0) (apart : (j : ℕ) → W j → X j → ⊥) wher
       ∙ ap (applied (m .puts)) (sym (l .is xs))
       ∙ sym (m .is (f xs))
 
--- ---- the bytes of a host, and those of an element but for holder and id
+-- ---- the bytes of a host, those of the panel's number, and those of an element but for holder and id
 
 abbrev pub OfHost : ℕ → ℕ → Type 0
 OfHost h j = (hostAt h ≤ j) × (j < hostAt (1 + h))
+
+abbrev pub OfPanel : ℕ → Type 0
+OfPanel j = (panelAt ≤ j) × (j < headSize)
 
 abbrev pub OfStock : ℕ → ℕ → Type 0
 OfStock p j = (elementAt p ≤ j) × (j < elementAt p + elementSize) × (j ≢ elementAt p + 4) × (j ≢ elementAt p + 5)
@@ -97,6 +100,15 @@ unfolding inHead attended applied
 attention-local h a q =
     record {
       puts = record { at = attentionAt h; bytes = a ∷ q ∷ [] } ∷ [];
+      inside = (λ i l. (omega arith, omega arith), tt);
+      is = λ xs. refl;
+    }
+
+pub shown-local : (n : ℕ) → Local OfPanel (λ head. shown head n)
+unfolding shown applied
+shown-local n =
+    record {
+      puts = record { at = panelAt; bytes = high n ∷ low n ∷ [] } ∷ [];
       inside = (λ i l. (omega arith, omega arith), tt);
       is = λ xs. refl;
     }

@@ -10,8 +10,8 @@ use lib.Dec.{eqb, leb}
 use borrow.Author.Tests.{eqb-true}
 use Rattle.rules.specs.Choice.{when}
 use Rattle.rules.specs.Bytes.{byte, word}
-use Rattle.rules.specs.Tables.{rangeAt, unitAt}
-use Rattle.rules.specs.Roster.{Range, Slot, range, ranges, slots, spread, insert, sorted, roster, kindAt, placeOf, kindOf, drive}
+use Rattle.rules.specs.Tables.{unitAt}
+use Rattle.rules.specs.Roster.{Range, Slot, range, ranges, slots, spread, insert, sorted, roster, kindAt, placeOf, kindOf, drive, rangeAt}
 use Rattle.rules.specs.Ranges.{total}
 
 -- ---- the place of an address that stands
@@ -82,6 +82,27 @@ pub roster-length : (head : List ℕ)
     → length (roster head) ≡ range head 0 .count + range head 1 .count + range head 2 .count + range head 3 .count
 unfolding roster ranges total
 roster-length head = omega (arith, spread-length 0 (sorted (ranges head)), total-sorted (ranges head))
+
+-- ---- each element stands at its place
+
+-- the first at place n
+abbrev pub Placed : ℕ → List Slot → Type 0
+Placed n [] = Unit {0}
+Placed n (x ∷ xs) = (x .place ≡ n) × Placed (suc n) xs
+
+slots-placed : (k a p n : ℕ) (ss : List Slot) → Placed (p + n) ss → Placed p (slots k a p n ++ ss)
+unfolding slots
+slots-placed k a p zero ss h = let e : p + 0 ≡ p = omega arith in rw e at h
+slots-placed k a p (suc n) ss h = let e : p + suc n ≡ suc p + n = omega arith in (refl, slots-placed k (suc a) (suc p) n ss (rw e at h))
+
+spread-placed : (p : ℕ) (rs : List Range) → Placed p (spread p rs)
+unfolding spread
+spread-placed p [] = tt
+spread-placed p (r ∷ rs) = slots-placed (r .kind) (r .first) p (r .count) (spread (p + r .count) rs) (spread-placed (p + r .count) rs)
+
+pub roster-placed : (head : List ℕ) → Placed 0 (roster head)
+unfolding roster
+roster-placed head = spread-placed 0 _
 
 -- ---- every type is one of the four
 

@@ -1,13 +1,14 @@
 -- What a command of demand 3 reads: tables that are alike in that much are answered alike. Assumes nothing.
-use Prim.Native.Nat.{ℕ, _+_, _<_}
+use Prim.Native.Nat.{ℕ, _+_, _<_, _≤_}
 use native.Mathlib.Omega.{arith}
 use mathlib.Core.Path.{_≡_, refl, ap, subst, _∙_}
 use mathlib.Core.Bool.{Bool, true, false}
 use mathlib.Core.List.{List, [], _∷_, List·Memᴰ}
 use Rattle.rules.specs.Choice.{when}
 use Rattle.rules.specs.Bytes.{byte, word}
-use Rattle.rules.specs.Tables.{Tables, hostAt, attentionAt, elementAt, elementSize, unit, key, asc, ascq, attention, attentionq, volume, source}
+use Rattle.rules.specs.Tables.{Tables, hosts, hostAt, attentionAt, elementAt, elementSize, unit, key, asc, ascq, attention, attentionq, volume, source}
 use Rattle.rules.specs.Roster.{roster, placeOf}
+use Rattle.rules.specs.Sound.{within}
 use Rattle.rules.specs.Order.{Verdict, other, heldByOther, volumeOf, sourceOf, afterAttention, afterUnit, guarded}
 use Rattle.rules.specs.Moves.{transportUsed, noTransport, noPlace, leave, shelfOf, carry, moveOf, move, exchangeOf, exchange}
 use Rattle.rules.specs.Sense.{tellsAttention, requestSense}
@@ -17,6 +18,7 @@ use Rattle.rules.specs.Command.{Request, act, admitted, stepsOf, steps, 
 use Rattle.rules.specs.Histories.{named, namedBy, mixes, joins}
 use Rattle.rules.proofs.Ladder.{never, when-true, when-false}
 use Rattle.rules.proofs.Local.{OfHost}
+use Rattle.rules.proofs.Soundness.{within-high}
 
 -- the j-th byte of the record of the element at an address
 abbrev pub recordByte : Tables → ℕ → ℕ → ℕ
@@ -44,7 +46,7 @@ unfit-names-none block e = when-false (blockFits block) (namedBy (operation bloc
 pub record Same (h : ℕ) (T N : List ℕ) (t u : Tables) : Type 0 where
   pub roster-is : roster (t .head) ≡ roster (u .head)
   pub unit-is : other h (unit (t .head)) ≡ other h (unit (u .head))
-  pub own-is : (j : ℕ) → OfHost h j → byte (t .head) j ≡ byte (u .head) j
+  pub own-is : h ≤ hosts → (j : ℕ) → OfHost h j → byte (t .head) j ≡ byte (u .head) j
   pub held-is : (a : ℕ) → List·Memᴰ a T → heldByOther t h a ≡ heldByOther u h a
   pub record-is : (a : ℕ) → List·Memᴰ a N → (j : ℕ) → j < elementSize → recordByte t a j ≡ recordByte u a j
 
@@ -56,7 +58,7 @@ there m = List·Memᴰ.List·Memᴰ·tail m
 
 -- ---- alike in what is read: alike in the verdict
 
-module _ (h : ℕ) (T N : List ℕ) (t u : Tables) (s : Same h T N t u) where
+module _ (h : ℕ) (T N : List ℕ) (t u : Tables) (k : h ≤ hosts) (s : Same h T N t u) where
   noPlace-is : (a : ℕ) → noPlace t a ≡ noPlace u a
   unfolding noPlace
   noPlace-is a = cc (s .roster-is)
@@ -102,11 +104,11 @@ module _ (h : ℕ) (T N : List ℕ) (t u : Tables) (s : Same h T N t u) where
 
   attention-is : attention (t .head) h ≡ attention (u .head) h
   unfolding attention
-  attention-is = s .own-is (attentionAt h) (omega arith, omega arith)
+  attention-is = s .own-is k (attentionAt h) (omega arith, omega arith)
 
   attentionq-is : attentionq (t .head) h ≡ attentionq (u .head) h
   unfolding attentionq
-  attentionq-is = s .own-is (1 + attentionAt h) (omega arith, omega arith)
+  attentionq-is = s .own-is k (1 + attentionAt h) (omega arith, omega arith)
 
   guarded-is : (v w : Verdict) → v ≡ w → guarded t h v ≡ guarded u h w
   unfolding guarded afterAttention afterUnit
@@ -115,9 +117,9 @@ module _ (h : ℕ) (T N : List ℕ) (t u : Tables) (s : Same h T N t u) where
   sense-is : (block : List ℕ) → requestSense t h block ≡ requestSense u h block
   unfolding requestSense tellsAttention key asc ascq
   sense-is block =
-      let key-is = s .own-is (hostAt h) (omega arith, omega arith) in
-      let asc-is = s .own-is (1 + hostAt h) (omega arith, omega arith) in
-      let ascq-is = s .own-is (2 + hostAt h) (omega arith, omega arith) in
+      let key-is = s .own-is k (hostAt h) (omega arith, omega arith) in
+      let asc-is = s .own-is k (1 + hostAt h) (omega arith, omega arith) in
+      let ascq-is = s .own-is k (2 + hostAt h) (omega arith, omega arith) in
       cc (key-is, asc-is, ascq-is, attention-is, attentionq-is)
 
   moveOf-is : (arm from to : ℕ) → List·Memᴰ arm T → List·Memᴰ from T → List·Memᴰ to T → List·Memᴰ from N → List·Memᴰ to N
@@ -160,7 +162,7 @@ module _ (h : ℕ) (T N : List ℕ) (t u : Tables) (s : Same h T N t u) where
         carry-is from first m,
       )
 
-module _ (h : ℕ) (block : List ℕ) (t u : Tables) where
+module _ (h : ℕ) (k : h ≤ hosts) (block : List ℕ) (t u : Tables) where
   -- by the operation of the block
   abbrev Alike : Operation → Type 0
   Alike op = Same h (touching t block (namedBy op block)) (namedBy op block) t u
@@ -168,25 +170,25 @@ module _ (h : ℕ) (block : List ℕ) (t u : Tables) where
   move-is : Alike MoveMedium → move t h block ≡ move u h block
   unfolding move touching namedBy
   move-is s =
-      moveOf-is h _ _ t u s _ _ _ (here _ _) (there (here _ _)) (there (there (here _ _))) (here _ _) (there (here _ _))
-      ∙ ap (λ (arm : ℕ). moveOf u h arm (word block 4) (word block 6)) (transportUsed-is h _ _ t u s (word block 2))
+      moveOf-is h _ _ t u k s _ _ _ (here _ _) (there (here _ _)) (there (there (here _ _))) (here _ _) (there (here _ _))
+      ∙ ap (λ (arm : ℕ). moveOf u h arm (word block 4) (word block 6)) (transportUsed-is h _ _ t u k s (word block 2))
 
   exchange-is : Alike ExchangeMedium → exchange t h block ≡ exchange u h block
   unfolding exchange touching namedBy
   exchange-is s =
-      exchangeOf-is h _ _ t u s _ _ _ _ (here _ _) (there (here _ _)) (there (there (here _ _))) (there (there (there (here _ _))))
+      exchangeOf-is h _ _ t u k s _ _ _ _ (here _ _) (there (here _ _)) (there (there (here _ _))) (there (there (there (here _ _))))
       (here _ _) (there (here _ _)) (there (there (here _ _)))
-      ∙ ap (λ (arm : ℕ). exchangeOf u h arm (word block 4) (word block 6) (word block 8)) (transportUsed-is h _ _ t u s (word block 2))
+      ∙ ap (λ (arm : ℕ). exchangeOf u h arm (word block 4) (word block 6) (word block 8)) (transportUsed-is h _ _ t u k s (word block 2))
 
   stepsOf-is : (op : Operation) (list : List ℕ) → joins op ≡ true → Alike op → stepsOf op t h block list ≡ stepsOf op u h block list
   unfolding stepsOf admitted formed fault ownFault act joins
-  stepsOf-is TestUnitReady list m s = guarded-is h _ _ t u s _ _ refl
-  stepsOf-is RequestSense list m s = cc (sense-is h _ _ t u s block)
+  stepsOf-is TestUnitReady list m s = guarded-is h _ _ t u k s _ _ refl
+  stepsOf-is RequestSense list m s = cc (sense-is h _ _ t u k s block)
   stepsOf-is Reserve list m s = absurd (never m)
   stepsOf-is Release list m s = absurd (never m)
   stepsOf-is PreventAllow list m s = absurd (never m)
-  stepsOf-is MoveMedium list m s = guarded-is h _ _ t u s _ _ (cc (move-is s))
-  stepsOf-is ExchangeMedium list m s = guarded-is h _ _ t u s _ _ (cc (exchange-is s))
+  stepsOf-is MoveMedium list m s = guarded-is h _ _ t u k s _ _ (cc (move-is s))
+  stepsOf-is ExchangeMedium list m s = guarded-is h _ _ t u k s _ _ (cc (exchange-is s))
   stepsOf-is ReadElementStatus list m s = absurd (never m)
   stepsOf-is ModeSense list m s = absurd (never m)
   stepsOf-is Unknown list m s = absurd (never m)
@@ -198,12 +200,13 @@ module _ (h : ℕ) (block : List ℕ) (t u : Tables) where
       let e = when-true (blockFits block) (namedBy (operation block) block) [] f in
       stepsOf-is (operation block) list m (subst (λ (N : List ℕ). Same h (touching t block N) N t u) e s)
 
--- a block that does not fit is refused whatever the tables hold
+-- a host that there is not, and a block that does not fit, are refused whatever the tables hold
 pub judged-is : (r : Request) (t u : Tables) → mixes (r .block) ≡ true → Same (r .host) (touched t (r .block)) (named (r .block)) t u
     → judged t r ≡ judged u r
 unfolding judged
-judged-is r t u m s = go (blockFits (r .block)) refl
+judged-is r t u m s = go (within 1 hosts (r .host)) (blockFits (r .block)) refl refl
   where
-    go : (b : Bool) → blockFits (r .block) ≡ b → judged t r ≡ judged u r
-    go true f = rw (steps-is (r .host) (r .block) t u (r .parameters) m f s)
-    go false f = unfold when in rw f
+    go : (a b : Bool) → within 1 hosts (r .host) ≡ a → blockFits (r .block) ≡ b → judged t r ≡ judged u r
+    go true true e f = rw (steps-is (r .host) (within-high 1 hosts (r .host) e) (r .block) t u (r .parameters) m f s)
+    go true false e f = unfold when in rw f
+    go false b e f = unfold when in rw e

@@ -4,14 +4,14 @@ use native.Mathlib.Omega.{arith}
 use mathlib.Core.Path.{_≡_, refl, sym, ap, _∙_}
 use mathlib.Core.Logic.{_≢_}
 use mathlib.Core.Bool.{Bool, true, false}
-use mathlib.Core.List.{List, [], _∷_, _++_}
+use mathlib.Core.List.{List, [], _∷_}
 use lib.ListN.{length, List·getD-eq-default}
 use lib.Dec.{eqb, ltb}
 use borrow.Author.Tests.{eqb-true, eqb-false, eq-eqb, ne-eqb, leb-false, ltb-true, ltb-false}
-use Rattle.rules.specs.Choice.{when, allOf, differ}
+use Rattle.rules.specs.Choice.{when}
 use Rattle.rules.specs.Bytes.{byte, word}
-use Rattle.rules.specs.Tables.{Tables, elementSize, elementAt, places, volume, source, filled, Announce, Fill, inElements, change, changes}
-use Rattle.rules.specs.Roster.{Slot, Range, slots, spread, roster, placeOf, kindOf, transport, storage, port}
+use Rattle.rules.specs.Tables.{Tables, elementSize, elementAt, places, volume, source, filled, Announce, Fill, Recount, inElements, change, changes}
+use Rattle.rules.specs.Roster.{Slot, roster, placeOf, kindOf, transport, storage, port}
 use Rattle.rules.specs.Order.{Verdict, Number, Prevented, Done, Outcome, outcome, good, volumeOf, sourceOf}
 use Rattle.rules.specs.Moves.{noPlace, leave, shelfOf, carry}
 use Rattle.rules.specs.Sound.{sound}
@@ -22,32 +22,11 @@ use Rattle.rules.specs.Shelves.{vacated, shelfAfter, lastShelf, beside, 
 use Rattle.rules.proofs.Ladder.{on, either, when-true, when-false, all-first, all-rest, all-cons, all-nil, any-first, any-rest, any-nowhere, differ-true, differ-false, ne-differ, never}
 use Rattle.rules.proofs.Walks.{Moving, Exchanging}
 use Rattle.rules.proofs.Stills.{still-alone, Numbered, Stilled, command-by, port-by, reset-by}
-use Rattle.rules.proofs.Places.{place-in, place-apart}
+use Rattle.rules.proofs.Places.{place-in, place-apart, Placed, roster-placed}
 use Rattle.rules.proofs.ElementFields.{filled-length, volume-else, source-else, filled-volume, filled-source, volume-alone, source-alone}
 use Rattle.rules.proofs.Soundness.{Sound, sound-true, volumes-apart, places-is}
 use Rattle.rules.proofs.Counts.{one-same, one-else}
 use Rattle.rules.proofs.Sequences.{next-sound}
-
--- ---- a roster's elements stand at their places
-
--- each element at its place, the first at place n
-abbrev Placed : ℕ → List Slot → Type 0
-Placed n [] = Unit {0}
-Placed n (x ∷ xs) = (x .place ≡ n) × Placed (suc n) xs
-
-slots-placed : (k a p n : ℕ) (ss : List Slot) → Placed (p + n) ss → Placed p (slots k a p n ++ ss)
-unfolding slots
-slots-placed k a p zero ss h = let e : p + 0 ≡ p = omega arith in rw e at h
-slots-placed k a p (suc n) ss h = let e : p + suc n ≡ suc p + n = omega arith in (refl, slots-placed k (suc a) (suc p) n ss (rw e at h))
-
-spread-placed : (p : ℕ) (rs : List Range) → Placed p (spread p rs)
-unfolding spread
-spread-placed p [] = tt
-spread-placed p (r ∷ rs) = slots-placed (r .kind) (r .first) p (r .count) (spread (p + r .count) rs) (spread-placed (p + r .count) rs)
-
-roster-placed : (head : List ℕ) → Placed 0 (roster head)
-unfolding roster
-roster-placed head = spread-placed 0 _
 
 -- what does not hold is false
 unheld : (b : Bool) → (b ≡ true → ⊥) → b ≡ false
@@ -208,7 +187,7 @@ module _ (w : ℕ) (z : w ≢ 0) (t : Tables) (s : Sound t) where
 
   -- ---- MOVE and EXCHANGE
 
-  move-ways : (h from to : ℕ) → Moving t from to → Ways w t 0 (good h (leave t from ∷ carry t from to ∷ []))
+  move-ways : (h from to : ℕ) → Moving t from to → Ways w t 0 (good h (leave t from ∷ carry t from to ∷ Recount ∷ []))
   unfolding good leave carry volumeOf changes change inElements
   move-ways h from to x = λ p v.
       let es : List ℕ = t .elements in
@@ -225,7 +204,7 @@ module _ (w : ℕ) (z : w ≢ 0) (t : Tables) (s : Sound t) where
       (λ n i j. at-filled es pf 0 0 0 p l (λ _ y _. absurd (z (sym v ∙ i ∙ y))) (λ _ y o. stayed (omega arith) (sym y ∙ sym i ∙ v) (j ∙ o)))
 
   exchange-ways : (h from first second : ℕ) → Exchanging t from first second
-      → Ways w t 0 (good h (leave t from ∷ leave t first ∷ carry t first second ∷ carry t from first ∷ []))
+      → Ways w t 0 (good h (leave t from ∷ leave t first ∷ carry t first second ∷ carry t from first ∷ Recount ∷ []))
   unfolding good leave carry volumeOf changes change inElements
   exchange-ways h from first second x = λ p v.
       at-filled es₃ p₁ (volume es pf) (shelfOf t from) 0 p l₃

@@ -9,9 +9,9 @@ use lib.ListN.{length, getD}
 use lib.Dec.{eqb, leb, ltb}
 use borrow.Author.Tests.{eqb-true, eqb-false, leb-true, ltb-true, ltb-false, eq-eqb, le-leb}
 use Rattle.rules.specs.Choice.{when, allOf, differ, below}
-use Rattle.rules.specs.Tables.{Tables, Rest, headSize, elementSize, tagSize, hosts, places, volumes, unit, key, asc, ascq, attention, attentionq, volume, source, holder, id, mark, zeroByte}
+use Rattle.rules.specs.Tables.{Tables, Rest, headSize, elementSize, tagSize, hosts, places, volumes, unit, key, asc, ascq, attention, attentionq, volume, source, holder, id, mark, zeroByte, panel, emptyShelves}
 use Rattle.rules.specs.Roster.{Slot, Range, range, ranges, roster, kindAt, kindOf, transport, storage, port}
-use Rattle.rules.specs.Sound.{within, countsSound, behind, rangeSound, noOverlap, clear, rangesSound, transportEmpty, sourceSound, markSound, stockSound, holdSound, once, senseSound, attentionSound, headSound, labelsSound, restSound, elementsSound, sound}
+use Rattle.rules.specs.Sound.{within, countsSound, behind, rangeSound, noOverlap, clear, rangesSound, transportEmpty, sourceSound, markSound, stockSound, holdSound, once, senseSound, attentionSound, headSound, labelsSound, restSound, elementsSound, sound, panelSound}
 use Rattle.rules.proofs.Ladder.{either, if-true, if-of, unless-true, unless-of, any-cases, any-by-first, any-by-rest, any-nil, all-first, all-rest, all-cons, all-nil, differ-true, ne-differ, below-at, below-of}
 
 -- ---- small tests
@@ -383,21 +383,24 @@ pub record Sound (t : Tables) : Type 0 where
   pub head-fits : HeadFits (t .head)
   pub rest-fits : RestFits (t .rest)
   pub elements-fit : ElementsFit (roster (t .head)) (unit (t .head)) (volumes (t .rest .tags)) (t .elements)
+  pub panel-true : panel (t .head) ≡ emptyShelves (roster (t .head)) (t .elements)
 
 pub sound-true : (t : Tables) → sound t ≡ true → Sound t
-unfolding sound
+unfolding sound panelSound
 sound-true t e =
     record {
       head-fits = head-true _ (all-first _ _ e);
       rest-fits = rest-true _ (all-first _ _ (all-rest _ _ e));
       elements-fit = elements-true _ _ _ _ (all-first _ _ (all-rest _ _ (all-rest _ _ e)));
+      panel-true = eqb-true _ _ (all-first _ _ (all-rest _ _ (all-rest _ _ (all-rest _ _ e))));
     }
 
 pub sound-of : (t : Tables) → Sound t → sound t ≡ true
-unfolding sound
+unfolding sound panelSound
 sound-of t s =
     all-cons _ _ (head-of _ (s .head-fits))
-    (all-cons _ _ (rest-of _ (s .rest-fits)) (all-cons _ _ (elements-of _ _ _ _ (s .elements-fit)) all-nil))
+    (all-cons _ _ (rest-of _ (s .rest-fits))
+    (all-cons _ _ (elements-of _ _ _ _ (s .elements-fit)) (all-cons _ _ (eq-eqb _ _ (s .panel-true)) all-nil)))
 
 -- ---- how many elements
 

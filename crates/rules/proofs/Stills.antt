@@ -7,7 +7,7 @@ use mathlib.Core.Logic.{_≢_}
 use mathlib.Core.List.{List, [], _∷_}
 use lib.ListN.{length}
 use Rattle.rules.specs.Bytes.{byte}
-use Rattle.rules.specs.Tables.{Tables, ElementChange, NewStock, NewHolds, NewlyFree, Change, OfHead, OfElements, inElements, change, changes}
+use Rattle.rules.specs.Tables.{Tables, ElementChange, NewStock, NewHolds, NewlyFree, Change, OfHead, OfElements, Recount, inElements, change, changes}
 use Rattle.rules.specs.Roster.{Slot, roster, kindOf, port}
 use Rattle.rules.specs.Sound.{sound}
 use Rattle.rules.specs.Order.{Verdict, Number, Prevented, Done, InvalidOperation, fits, good, check, conflict}
@@ -33,6 +33,7 @@ StillElements (NewlyFree w) = Unit {0}
 abbrev pub Still : Change → Type 0
 Still (OfHead c) = Unit {0}
 Still (OfElements c) = StillElements c
+Still Recount = Unit {0}
 
 abbrev pub AllStill : List Change → Type 0
 AllStill [] = Unit {0}
@@ -44,6 +45,7 @@ still-length-of (OfHead c) t s = refl
 still-length-of (OfElements (NewStock p v o m)) t s = absurd s
 still-length-of (OfElements (NewHolds p n h i)) t s = held-length (t .elements) p n h i
 still-length-of (OfElements (NewlyFree w)) t s = freed-length w (t .elements)
+still-length-of Recount t s = refl
 
 still-alone-of : (c : Change) (t : Tables) → Still c → HoldsAlone (t .elements) (change c t .elements)
 unfolding change inElements
@@ -51,6 +53,7 @@ still-alone-of (OfHead c) t s j d = refl
 still-alone-of (OfElements (NewStock p v o m)) t s j d = absurd s
 still-alone-of (OfElements (NewHolds p n h i)) t s j d = held-alone (t .elements) p n h i j d
 still-alone-of (OfElements (NewlyFree w)) t s j d = freed-alone w (t .elements) j d
+still-alone-of Recount t s j d = refl
 
 pub still-length : (cs : List Change) (t : Tables) → AllStill cs → length (changes cs t .elements) ≡ length (t .elements)
 unfolding changes
@@ -84,9 +87,9 @@ Stilled P = (status : ℕ) (bytes : List ℕ) (cs : List Change) → AllStill cs
 
 -- what MOVE and EXCHANGE of host h carry out
 pub record Filling (P : Verdict → Type 0) (t : Tables) (h : ℕ) : Type 0 where
-  pub moves : (from to : ℕ) → Moving t from to → P (good h (leave t from ∷ carry t from to ∷ []))
+  pub moves : (from to : ℕ) → Moving t from to → P (good h (leave t from ∷ carry t from to ∷ Recount ∷ []))
   pub exchanges : (from first second : ℕ) → Exchanging t from first second
-      → P (good h (leave t from ∷ leave t first ∷ carry t first second ∷ carry t from first ∷ []))
+      → P (good h (leave t from ∷ leave t first ∷ carry t first second ∷ carry t from first ∷ Recount ∷ []))
 
 module _ (P : Verdict → Type 0) (s : Stilled P) (t : Tables) (h : ℕ) where
   -- ---- the commands of host h

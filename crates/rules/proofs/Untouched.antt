@@ -11,7 +11,7 @@ use lib.Dec.{leb}
 use borrow.Author.Tests.{leb-true}
 use Rattle.rules.specs.Choice.{when}
 use Rattle.rules.specs.Bytes.{byte, put}
-use Rattle.rules.specs.Tables.{Tables, hostAt, Change, OfHead, OfElements, inHead, change, changes}
+use Rattle.rules.specs.Tables.{Tables, hostAt, Change, OfHead, OfElements, Recount, inHead, change, changes}
 use Rattle.rules.specs.Sound.{sound}
 use Rattle.rules.specs.Order.{Verdict, Number, Prevented, Done, Outcome, GOOD, CHECK-CONDITION, RESERVATION-CONFLICT, Cause, InvalidOperation, outcome, fits, good, check, refused, conflict}
 use Rattle.rules.specs.Operation.{Operation, TestUnitReady, RequestSense, Reserve, Release, PreventAllow, MoveMedium, ExchangeMedium, ReadElementStatus, ModeSense, Unknown, operation}
@@ -65,11 +65,12 @@ buffer-length t buffer (Done s bytes cs) = put-length buffer 0 bytes
 
 -- ---- refused by status: the changes are within the host's own bytes
 
-abbrev Own : ℕ → Change → Type 0
+abbrev pub Own : ℕ → Change → Type 0
 Own h (OfHead c) = Local (OfHost h) (inHead c)
 Own h (OfElements c) = ⊥
+Own h Recount = ⊥
 
-abbrev AllOwn : ℕ → List Change → Type 0
+abbrev pub AllOwn : ℕ → List Change → Type 0
 AllOwn h [] = Unit {0}
 AllOwn h (c ∷ cs) = Own h c × AllOwn h cs
 
@@ -93,6 +94,7 @@ own-alone h (OfHead c) t l =
       head-else = λ j d. leaves (OfHost h) (inHead c) l j (λ (a, b). d a b) (t .head);
     }
 own-alone h (OfElements c) t e = absurd e
+own-alone h Recount t e = absurd e
 
 all-own-alone : (h : ℕ) (cs : List Change) (t : Tables) → AllOwn h cs → OwnAlone h t (changes cs t)
 unfolding changes

@@ -8,7 +8,7 @@ use mathlib.Core.List.{List, [], _∷_}
 use lib.Dec.{eqb}
 use borrow.Author.Tests.{eqb-false, leb-false, ne-eqb}
 use Rattle.rules.specs.Choice.{when, allOf, differ}
-use Rattle.rules.specs.Tables.{Tables, places, Announce, Fill, inElements, change, changes}
+use Rattle.rules.specs.Tables.{Tables, places, Announce, Fill, Recount, inElements, change, changes}
 use Rattle.rules.specs.Roster.{Slot, roster, placeOf}
 use Rattle.rules.specs.Sound.{sound}
 use Rattle.rules.specs.Order.{Verdict, Number, Prevented, Done, Outcome, outcome, after, good, volumeOf}
@@ -57,7 +57,7 @@ module _ (w : ℕ) (z : w ≢ 0) (t : Tables) (s : Sound t) (h : ℕ) where
   inside : (a : ℕ) → Stands (roster (t .head)) a → placeOf (roster (t .head)) a < places (t .elements)
   inside a x = rw (places-is t s) (x .inside)
 
-  even-move : (from to : ℕ) → Moving t from to → Even w t (good h (leave t from ∷ carry t from to ∷ []))
+  even-move : (from to : ℕ) → Moving t from to → Even w t (good h (leave t from ∷ carry t from to ∷ Recount ∷ []))
   unfolding good leave carry volumeOf changes change inElements
   even-move from to x =
       let m = moved-count w z (t .elements) _ _ (shelfOf t from) (inside from (stands from (x .from-stands))) (inside to (stands to (x .to-stands)))
@@ -65,7 +65,7 @@ module _ (w : ℕ) (z : w ≢ 0) (t : Tables) (s : Sound t) (h : ℕ) where
       omega arith
 
   even-exchange : (from first second : ℕ) → Exchanging t from first second
-      → Even w t (good h (leave t from ∷ leave t first ∷ carry t first second ∷ carry t from first ∷ []))
+      → Even w t (good h (leave t from ∷ leave t first ∷ carry t first second ∷ carry t from first ∷ Recount ∷ []))
   unfolding good leave carry volumeOf changes change inElements
   even-exchange from first second e =
       let x = stands from (e .from-stands) in

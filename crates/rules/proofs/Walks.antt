@@ -7,7 +7,7 @@ use mathlib.Core.List.{List, [], _∷_}
 use lib.Dec.{eqb}
 use Rattle.rules.specs.Choice.{allOf, differ, anyFrom}
 use Rattle.rules.specs.Bytes.{byte}
-use Rattle.rules.specs.Tables.{Tables, places, unit, holder, attention, attentionq, Sense, Attention, HoldUnit, Free, Under}
+use Rattle.rules.specs.Tables.{Tables, places, unit, holder, attention, attentionq, Sense, Attention, HoldUnit, Free, Under, Recount}
 use Rattle.rules.specs.Roster.{Slot, roster}
 use Rattle.rules.specs.Operation.{Operation, TestUnitReady, RequestSense, Reserve, Release, PreventAllow, MoveMedium, ExchangeMedium, ReadElementStatus, ModeSense, Unknown}
 use Rattle.rules.specs.Order.{Verdict, Done, CHECK-CONDITION, Cause, InvalidOperation, InvalidField, ListLength, ListField, WrongAddress, SourceEmpty, DestinationFull, good, check, refused, conflict, other, volumeOf, afterAttention, afterUnit, guarded}
@@ -108,7 +108,7 @@ module _ (P : Verdict → Type 0) (t : Tables) (h : ℕ) (r : Refusals P t h) wh
 
   -- ---- MOVE and EXCHANGE
 
-  pub move-by : (arm from to : ℕ) → (Moving t from to → P (good h (leave t from ∷ carry t from to ∷ []))) → P (moveOf t h arm from to)
+  pub move-by : (arm from to : ℕ) → (Moving t from to → P (good h (leave t from ∷ carry t from to ∷ Recount ∷ []))) → P (moveOf t h arm from to)
   unfolding moveOf
   move-by arm from to p =
       on P _ (λ _. r .refuses WrongAddress)
@@ -120,7 +120,7 @@ module _ (P : Verdict → Type 0) (t : Tables) (h : ℕ) (r : Refusals P t h) wh
       p (record { from-stands = any-first _ _ e₁; to-stands = any-first _ _ (any-rest _ _ e₁); from-full = full; to-empty = empty })
 
   pub exchange-by : (arm from first second : ℕ)
-      → (Exchanging t from first second → P (good h (leave t from ∷ leave t first ∷ carry t first second ∷ carry t from first ∷ [])))
+      → (Exchanging t from first second → P (good h (leave t from ∷ leave t first ∷ carry t first second ∷ carry t from first ∷ Recount ∷ [])))
       → P (exchangeOf t h arm from first second)
   unfolding exchangeOf
   exchange-by arm from first second p =

@@ -7,7 +7,7 @@ use mathlib.Core.Logic.{_≢_}
 use mathlib.Core.Bool.{Bool, true, false}
 use mathlib.Core.List.{List, [], _∷_, _++_}
 use lib.ListN.{length, take, drop, getD, set, length-set}
-use lib.Seq.{take-append-le, sets, sets-eq, length-sets, getD-set-other, getD-set-same, set-comm}
+use lib.Seq.{take-append-le, sets, sets-eq, length-sets, getD-set-other, getD-set-same, set-set, set-comm}
 use lib.Dec.{leb, ltb}
 use borrow.Author.Tests.{ltb-true, ltb-false, le-leb, lt-leb}
 use Rattle.rules.specs.Choice.{when}
@@ -49,6 +49,20 @@ sets-sets (a ∷ cs) bs xs i j d =
 pub put-put : (xs : List ℕ) (i j : ℕ) (cs bs : List ℕ) → Clear i (length cs) j (length bs) → put (put xs j bs) i cs ≡ put (put xs i cs) j bs
 unfolding put
 put-put xs i j cs bs d = sets-sets cs bs xs i j d
+
+sets-over : (bs cs xs : List ℕ) (i : ℕ) → length bs ≡ length cs → sets (sets xs i bs) i cs ≡ sets xs i cs
+sets-over [] [] xs i e = refl
+sets-over [] (c ∷ cs) xs i e = absurd (omega arith)
+sets-over (b ∷ bs) [] xs i e = absurd (omega arith)
+sets-over (b ∷ bs) (c ∷ cs) xs i e =
+    ap (λ (r : List ℕ). sets r (suc i) cs)
+    (set-sets bs (set xs i b) i (suc i) c (λ l h. omega arith) ∙ ap (λ (r : List ℕ). sets r (suc i) bs) (set-set xs i b c))
+    ∙ sets-over bs cs (set xs i c) (suc i) (omega arith)
+
+-- of two writes of as many bytes in one place the second is left
+pub put-over : (xs : List ℕ) (i : ℕ) (bs cs : List ℕ) → length bs ≡ length cs → put (put xs i bs) i cs ≡ put xs i cs
+unfolding put
+put-over xs i bs cs e = sets-over bs cs xs i e
 
 getD-sets-same : (bs xs : List ℕ) (i j k : ℕ) → j ≡ i + k → i + length bs ≤ length xs → k < length bs → getD (sets xs i bs) j 0 ≡ getD bs k 0
 getD-sets-same [] xs i j k e f h = absurd (not-suc-le-zero h)

@@ -10,7 +10,7 @@ use Rattle.rules.specs.Bytes.{high, low}
 use Rattle.rules.specs.Tables.{Tables, row}
 use Rattle.rules.specs.Order.{Outcome}
 use Rattle.rules.specs.Command.{Call, Import, Export, Reset, serve}
-use Rattle.rules.specs.Small.{Host, hostBytes, quiet, senses, awaits, headOf, element, empty, loaded, elementsOf, library, quietHead, smallElements, small, moveBlock, exchangeBlock, readBlock, reserveBlock, naming, sends, asks, lentBuffer, ends, checks, refuses}
+use Rattle.rules.specs.Small.{Host, hostBytes, quiet, senses, awaits, headOf, quietShowing, element, empty, loaded, elementsOf, library, quietHead, smallElements, small, moveBlock, exchangeBlock, readBlock, reserveBlock, naming, sends, asks, lentBuffer, ends, checks, refuses}
 
 pub data Name : Type 0 where
   P1 : Name
@@ -80,6 +80,10 @@ pub data Name : Type 0 where
   source-names-the-drive : Name
   source-names-the-mail-slot : Name
   source-names-the-transport : Name
+  shelf-to-shelf : Name
+  one-shelf-too-few : Name
+  one-shelf-too-many : Name
+  shelves-in-the-high-byte : Name
 
 pub record Case : Type 0 where
   pub name : Name
@@ -96,7 +100,7 @@ moves =
       name = P1;
       on = small;
       call = asks (moveBlock 0x1000 0x0100);
-      gives = ends 0x00 0 quietHead (elementsOf empty (element 1 0x1000 0 0 0) empty empty (loaded 2) empty) [];
+      gives = ends 0x00 0 (quietShowing 3) (elementsOf empty (element 1 0x1000 0 0 0) empty empty (loaded 2) empty) [];
     }
     -- "P2 MOVE 1001h to 0100h: 5/3B/0E. P3 1000h to 1002h: 5/3B/0D. P4 1000h to 1000h: 5/3B/0D. P5 1001h to 1001h: 5/3B/0E."
     ∷ record { name = P2; on = small; call = asks (moveBlock 0x1001 0x0100); gives = checks 5 0x3B 0x0E }
@@ -435,7 +439,7 @@ modeCases =
 -- 106 transports, and nothing else but a shelf
 unfoldable pub armsHead : Host → List ℕ
 armsHead one =
-    0x00 ∷ 0x01 ∷ 0 ∷ 106 ∷ 0x10 ∷ 0x00 ∷ 0 ∷ 1 ∷ 0 ∷ 0 ∷ 0 ∷ 0 ∷ 0 ∷ 0 ∷ 0 ∷ 0 ∷ 0 ∷ 0 ∷ hostBytes one ++ replicate 35 0
+    0x00 ∷ 0x01 ∷ 0 ∷ 106 ∷ 0x10 ∷ 0x00 ∷ 0 ∷ 1 ∷ 0 ∷ 0 ∷ 0 ∷ 0 ∷ 0 ∷ 0 ∷ 0 ∷ 0 ∷ 0 ∷ 0 ∷ hostBytes one ++ replicate 35 0 ++ (0 ∷ 1 ∷ [])
 
 unfoldable pub armsElements : List ℕ
 armsElements = replicate 856 0
@@ -459,37 +463,37 @@ longCases =
 
 -- ---- "the last storage element that held it"
 
--- carried out for host 1: the elements before and after
-unfoldable pub carries : Name → List ℕ → List ℕ → List ℕ → Case
-carries name before block behind =
-    record { name = name; on = library quietHead before; call = asks block; gives = ends 0x00 0 quietHead behind [] }
+-- carried out for host 1: the empty shelves and the elements before and after
+unfoldable pub carries : Name → ℕ → List ℕ → List ℕ → ℕ → List ℕ → Case
+carries name free before block left behind =
+    record { name = name; on = library (quietShowing free) before; call = asks block; gives = ends 0x00 0 (quietShowing left) behind [] }
 
 unfoldable pub shelfMoves : List Case
 shelfMoves =
     -- "A reel went from shelf to drive to mail slot, and our listing named the drive as its source."
-    carries shelf-to-drive-to-mail-slot
+    carries shelf-to-drive-to-mail-slot 3
     (elementsOf empty (element 1 0x1000 0 0 0) empty empty (loaded 2) empty)
-    (moveBlock 0x0100 0x0010)
+    (moveBlock 0x0100 0x0010) 3
     (elementsOf (element 1 0x1000 0 0 0) empty empty empty (loaded 2) empty)
     ∷ (let elements = elementsOf (element 1 0x1000 0 0 0) empty empty empty (loaded 2) empty in
     record {
       name = shelf-to-drive-to-mail-slot-listed;
-      on = library quietHead elements;
+      on = library (quietShowing 3) elements;
       call = sends 1 (readBlock 3 1 32) [] (lentBuffer 33);
       gives =
-          ends 0x00 32 quietHead elements
+          ends 0x00 32 (quietShowing 3) elements
           ((0x00 ∷ 0x10 ∷ 0x00 ∷ 0x01 ∷ 0x00 ∷ 0x00 ∷ 0x00 ∷ 0x18 ∷ 0x03 ∷ 0x00 ∷ 0x00 ∷ 0x10 ∷ 0x00 ∷ 0x00 ∷ 0x00 ∷ 0x10 ∷ [])
           ++ (0x00 ∷ 0x10 ∷ 0x39 ∷ 0x00 ∷ 0x00 ∷ 0x00 ∷ 0x00 ∷ 0x00 ∷ 0x00 ∷ 0x80 ∷ 0x10 ∷ 0x00 ∷ 0x00 ∷ 0x00 ∷ 0x00 ∷ 0x00 ∷ 0xEE ∷ []));
     })
     -- "leaving any other, it keeps the source it had, none included"
-    ∷ carries none-is-kept
+    ∷ carries none-is-kept 2
     (elementsOf (element 3 0 0 0 1) empty (loaded 1) empty (loaded 2) empty)
-    (moveBlock 0x0010 0x0100)
+    (moveBlock 0x0010 0x0100) 2
     (elementsOf empty (element 3 0 0 0 0) (loaded 1) empty (loaded 2) empty)
     -- "a move from the drive back to a shelf shows the old shelf"
-    ∷ carries drive-to-shelf-shows-the-old-shelf
+    ∷ carries drive-to-shelf-shows-the-old-shelf 3
     (elementsOf empty (element 1 0x1000 0 0 0) empty empty (loaded 2) empty)
-    (moveBlock 0x0100 0x1003)
+    (moveBlock 0x0100 0x1003) 2
     (elementsOf empty empty empty empty (loaded 2) (element 1 0x1000 0 0 0))
     ∷ []
 
@@ -497,18 +501,18 @@ shelfMoves =
 unfoldable pub shelfExchanges : List Case
 shelfExchanges =
     -- the volume of shelf 1002h came from 1000h: it takes 1002h
-    carries EXCHANGE-leaving-the-drive
+    carries EXCHANGE-leaving-the-drive 3
     (elementsOf empty (element 1 0x1003 0 0 0) empty empty (element 2 0x1000 0 0 0) empty)
-    (exchangeBlock 0x0100 0x1002 0x1001)
+    (exchangeBlock 0x0100 0x1002 0x1001) 2
     (elementsOf empty empty empty (element 2 0x1002 0 0 0) (element 1 0x1003 0 0 0) empty)
-    ∷ carries EXCHANGE-shelf-to-drive-and-back
+    ∷ carries EXCHANGE-shelf-to-drive-and-back 3
     (elementsOf empty (element 2 0x1002 0 0 0) (element 1 0x1003 0 0 0) empty empty empty)
-    (exchangeBlock 0x1000 0x0100 0x1000)
+    (exchangeBlock 0x1000 0x0100 0x1000) 3
     (elementsOf empty (element 1 0x1000 0 0 0) (element 2 0x1002 0 0 0) empty empty empty)
     -- each source is read before the other is written
-    ∷ carries EXCHANGE-of-drive-and-mail-slot
+    ∷ carries EXCHANGE-of-drive-and-mail-slot 4
     (elementsOf (element 2 0x1002 0 0 0) (element 1 0x1000 0 0 0) empty empty empty empty)
-    (exchangeBlock 0x0100 0x0010 0x0100)
+    (exchangeBlock 0x0100 0x0010 0x0100) 4
     (elementsOf (element 1 0x1000 0 0 0) (element 2 0x1002 0 0 0) empty empty empty empty)
     ∷ []
 
@@ -525,11 +529,30 @@ sourceCases =
     ∷ unsoundSource source-names-the-transport 0x0001
     ∷ []
 
+-- ---- "how many storage elements are empty"
+
+-- "Sound tables have it equal to the true count, else number 1."
+unfoldable pub unsoundPanel : Name → ℕ → Case
+unsoundPanel name free =
+    let t = library (quietShowing free) smallElements in
+    record { name = name; on = t; call = asks (0x00 ∷ 0 ∷ 0 ∷ 0 ∷ 0 ∷ 0 ∷ []); gives = refuses 1 t [] }
+
+unfoldable pub panelCases : List Case
+panelCases =
+    carries shelf-to-shelf 2
+    (elementsOf empty empty (loaded 1) empty (loaded 2) empty)
+    (moveBlock 0x1000 0x1003) 2
+    (elementsOf empty empty empty empty (loaded 2) (element 1 0x1000 0 0 0))
+    ∷ unsoundPanel one-shelf-too-few 1
+    ∷ unsoundPanel one-shelf-too-many 3
+    ∷ unsoundPanel shelves-in-the-high-byte 0x0102
+    ∷ []
+
 -- "P1 to P12 are one table", with the rows above
 unfoldable pub cases : List Case
 cases =
     moves ++ exchanges ++ cuts ++ readAll ++ shipped ++ numbers ++ eventNumbers ++ stepCases ++ touchCases ++ holdCases ++ eventCases ++ modeCases ++ longCases
-    ++ shelfMoves ++ shelfExchanges ++ sourceCases
+    ++ shelfMoves ++ shelfExchanges ++ sourceCases ++ panelCases
 
 -- ---- the test over all rows: the names of those whose outcome is another
 

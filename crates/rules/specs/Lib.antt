@@ -1,7 +1,7 @@
 pub mod Choice
 pub mod Bytes
-pub mod Tables
 pub mod Roster
+pub mod Tables
 pub mod Ranges
 pub mod Sound
 pub mod Operation

@@ -1,10 +1,9 @@
 -- The ranges and the roster: "one for each address in the ranges, ascending (the address itself isn't stored)". Assumes nothing.
-use Prim.Native.Nat.{ℕ, zero, suc, _+_}
+use Prim.Native.Nat.{ℕ, zero, suc, _+_, _*_}
 use mathlib.Core.List.{List, [], _∷_, _++_}
 use lib.Dec.{eqb, leb}
 use Rattle.rules.specs.Choice.{when}
 use Rattle.rules.specs.Bytes.{word}
-use Rattle.rules.specs.Tables.{rangeAt}
 
 -- the type codes: "1 transport, 2 storage, 3 import/export, 4 drive"
 abbrev pub transport : ℕ
@@ -23,6 +22,10 @@ pub record Range : Type 0 where
   pub kind : ℕ
   pub first : ℕ
   pub count : ℕ
+
+-- "Four ranges of 4 bytes": where the k-th stands in the head, from 0
+abbrev pub rangeAt : ℕ → ℕ
+rangeAt k = 4 * k
 
 -- "each first address and count, in the order transport, storage, import/export, drive": the k-th from 0 is of type k + 1
 unfoldable pub range : List ℕ → ℕ → Range

@@ -31,11 +31,16 @@ senses k a q = record { key = k; asc = a; ascq = q; attention = 0; attentionq = 
 unfoldable pub awaits : ℕ → ℕ → Host
 awaits a q = record { key = 0; asc = 0; ascq = 0; attention = a; attentionq = q }
 
--- the head: unit holder, prevent mask, hosts 1, 2 and 3 to 8
-unfoldable pub headOf : ℕ → ℕ → Host → Host → Host → List ℕ
-headOf unit mask one two rest =
+-- the head: empty shelves, unit holder, prevent mask, hosts 1, 2 and 3 to 8
+unfoldable pub headShowing : ℕ → ℕ → ℕ → Host → Host → Host → List ℕ
+headShowing free unit mask one two rest =
     smallRanges ++ (unit ∷ mask ∷ [])
     ++ hostBytes one ++ hostBytes two ++ hostBytes rest ++ hostBytes rest ++ hostBytes rest ++ hostBytes rest ++ hostBytes rest ++ hostBytes rest
+    ++ (high free ∷ low free ∷ [])
+
+-- two of the four shelves are empty
+unfoldable pub headOf : ℕ → ℕ → Host → Host → Host → List ℕ
+headOf unit mask one two rest = headShowing 2 unit mask one two rest
 
 -- an element's eight bytes: volume, source, holder, id, mark
 unfoldable pub element : ℕ → ℕ → ℕ → ℕ → ℕ → List ℕ
@@ -62,9 +67,12 @@ smallBlank = replicate 36 0x20
 unfoldable pub library : List ℕ → List ℕ → Tables
 library head elements = lent head elements (labels smallTags smallBlank)
 
--- "no source, holder, sense or attention"
+-- "no source, holder, sense or attention"; so many shelves are empty
+unfoldable pub quietShowing : ℕ → List ℕ
+quietShowing free = headShowing free 0 0 quiet quiet quiet
+
 unfoldable pub quietHead : List ℕ
-quietHead = headOf 0 0 quiet quiet quiet
+quietHead = quietShowing 2
 
 -- "Volume 1 at 1000h, 2 at 1002h"
 unfoldable pub smallElements : List ℕ

@@ -5,7 +5,7 @@ use mathlib.Core.Bool.{Bool, true, false}
 use lib.ListN.{length}
 use lib.Dec.{eqb, leb}
 use Rattle.rules.specs.Choice.{when, anyOf, allOf, differ, below}
-use Rattle.rules.specs.Tables.{Tables, mostElements, mostTransports, mostVolumes, behindLast, Rest, headSize, elementSize, tagSize, hosts, volumes, unit, key, asc, ascq, attention, attentionq, volume, source, holder, id, mark, zeroByte}
+use Rattle.rules.specs.Tables.{Tables, mostElements, mostTransports, mostVolumes, behindLast, Rest, headSize, elementSize, tagSize, hosts, volumes, unit, key, asc, ascq, attention, attentionq, volume, source, holder, id, mark, zeroByte, panel, emptyShelves}
 use Rattle.rules.specs.Roster.{Slot, Range, range, ranges, roster, kindAt, kindOf, transport, storage, port}
 
 -- low to high, both ends included
@@ -111,10 +111,15 @@ elementsSound ss u top elements =
     ∷ below (length ss) (once elements)
     ∷ [])
 
+-- "Sound tables have it equal to the true count, else number 1."
+unfoldable pub panelSound : Tables → Bool
+panelSound t = eqb (panel (t .head)) (emptyShelves (roster (t .head)) (t .elements))
+
 unfoldable pub sound : Tables → Bool
 sound t =
     allOf
     (headSound (t .head)
     ∷ restSound (t .rest)
     ∷ elementsSound (roster (t .head)) (unit (t .head)) (volumes (t .rest .tags)) (t .elements)
+    ∷ panelSound t
     ∷ [])

@@ -1,4 +1,5 @@
--- "The lent tables": as they lie, each field by its name, each write by its name. The numbers of the layout stand here and nowhere else.
+-- "The lent tables": as they lie, each field by its name, each write by its name. The numbers of the layout stand here and, for the ranges,
+-- with the roster, and nowhere else.
 -- Assumes nothing.
 use Prim.Native.Nat.{ℕ, _+_, _*_, _-_, _/_, _%_, _^_}
 use mathlib.Core.List.{List, [], _∷_}
@@ -7,6 +8,7 @@ use lib.ListN.{length, getD}
 use lib.Dec.{eqb}
 use Rattle.rules.specs.Choice.{when, each, allOf}
 use Rattle.rules.specs.Bytes.{byte, word, put, high, low}
+use Rattle.rules.specs.Roster.{Slot, roster, storage}
 
 -- the tables that no call writes
 pub record Rest : Type 0 where
@@ -42,9 +44,9 @@ bare = labels [] []
 
 -- ---- the sizes
 
--- "Head, 58 bytes"
+-- "two further bytes (60 in all)"
 abbrev pub headSize : ℕ
-headSize = 58
+headSize = 60
 
 -- "host 1 to 8"
 abbrev pub hosts : ℕ
@@ -85,10 +87,6 @@ mostDescriptors = 32
 
 -- ---- where the fields stand
 
--- "Four ranges of 4 bytes, each first address and count": the k-th, from 0
-abbrev pub rangeAt : ℕ → ℕ
-rangeAt k = 4 * k
-
 -- "Byte 16: unit holder"
 abbrev pub unitAt : ℕ
 unitAt = 16
@@ -111,6 +109,10 @@ hostAt h = hostsAt - hostSize + hostSize * h
 -- the attention's two bytes stand behind key, ASC and ASCQ
 abbrev pub attentionAt : ℕ → ℕ
 attentionAt h = 3 + hostAt h
+
+-- "how many storage elements are empty .. in the head as two further bytes": its last two
+abbrev pub panelAt : ℕ
+panelAt = headSize - 2
 
 abbrev pub elementAt : ℕ → ℕ
 elementAt p = elementSize * p
@@ -148,6 +150,10 @@ attention head h = byte head (attentionAt h)
 unfoldable pub attentionq : List ℕ → ℕ → ℕ
 attentionq head h = byte head (1 + attentionAt h)
 
+-- the number that the panel shows
+unfoldable pub panel : List ℕ → ℕ
+panel head = word head panelAt
+
 -- ---- the fields of the element at a place
 
 -- "volume number (2; 0 empty)"
@@ -173,6 +179,17 @@ mark elements p = byte elements (elementAt p + 6)
 -- "zero (1)"
 unfoldable pub zeroByte : List ℕ → ℕ → ℕ
 zeroByte elements p = byte elements (elementAt p + 7)
+
+-- ---- "how many storage elements are empty"
+
+-- an element of this type, with this volume, is one of them
+unfoldable pub vacant : ℕ → ℕ → Bool
+vacant kind v = allOf (eqb kind storage ∷ eqb v 0 ∷ [])
+
+-- of the elements of a roster
+unfoldable pub emptyShelves : List Slot → List ℕ → ℕ
+emptyShelves [] elements = 0
+emptyShelves (s ∷ ss) elements = when (vacant (s .kind) (volume elements (s .place))) 1 0 + emptyShelves ss elements
 
 -- ---- the prevent mask: "bit h-1 for host h"
 
@@ -212,6 +229,10 @@ unitHeld head h = put head unitAt (h ∷ [])
 
 unfoldable pub masked : List ℕ → ℕ → List ℕ
 masked head m = put head maskAt (m ∷ [])
+
+-- the number that the panel shows
+unfoldable pub shown : List ℕ → ℕ → List ℕ
+shown head n = put head panelAt (high n ∷ low n ∷ [])
 
 -- volume, source and mark of the element at a place
 unfoldable pub filled : List ℕ → ℕ → ℕ → ℕ → ℕ → List ℕ
@@ -278,10 +299,13 @@ inElements (NewlyFree w) elements = freed w elements
 pub data Change : Type 0 where
   OfHead : HeadChange → Change
   OfElements : ElementChange → Change
+  -- the panel's number, by the elements as they then are
+  Recount : Change
 
 unfoldable pub change : Change → Tables → Tables
 change (OfHead c) t = lent (inHead c (t .head)) (t .elements) (t .rest)
 change (OfElements c) t = lent (t .head) (inElements c (t .elements)) (t .rest)
+change Recount t = lent (shown (t .head) (emptyShelves (roster (t .head)) (t .elements))) (t .elements) (t .rest)
 
 -- one change after another
 unfoldable pub changes : List Change → Tables → Tables

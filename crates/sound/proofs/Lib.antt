@@ -1,3 +1,4 @@
+pub mod Empty
 pub mod Pass
 pub mod Once
 pub mod Holding

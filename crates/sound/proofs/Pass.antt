@@ -9,19 +9,23 @@ use mathlib.Core.Bool.{Bool, true, false, not}
 use mathlib.Core.List.{List, [], _∷_, map}
 use lib.ListN.{length, getD, set, drop, length-set}
 use lib.Dec.{eqb, leb}
-use borrow.Author.Tests.{not-true, not-false, lt-ltb, le-ltb, leb-true, leb-false, le-leb, lt-leb, eqb-true, eqb-false}
+use borrow.Author.Tests.{not-true, not-false, lt-ltb, le-ltb, leb-true, leb-false, le-leb, lt-leb, eqb-true, eqb-false, eq-eqb, ne-eqb}
 use Rattle.rules.specs.Ranges.{total}
 use Rattle.rules.specs.Choice.{when, allOf, below}
 use Rattle.rules.specs.Bytes.{byte, word}
-use Rattle.rules.specs.Tables.{elementSize, elementAt, volume, source, mark, holder, id, zeroByte}
-use Rattle.rules.specs.Roster.{Range, Slot, kindAt, transport}
+use Rattle.rules.specs.Tables.{elementSize, elementAt, volume, source, mark, holder, id, zeroByte, emptyShelves}
+use Rattle.rules.specs.Roster.{Range, Slot, spread, kindAt, transport, storage}
 use Rattle.rules.specs.Sound.{transportEmpty, sourceSound, markSound, stockSound, holdSound, once, elementsSound}
 use Rattle.rules.proofs.Ladder.{on, below-step, below-at, below-of, below-fails, all-first}
+use Rattle.sound_head.proofs.Tests.{all-stop, all-go, all-last}
 use Rattle.tables.specs.declared.Range.{Range as Code}
 use Rattle.tables.specs.Ranges.{meaning, meant, laid}
 use Rattle.tables.proofs.Sort.{none, meant-from, meant-end}
 use Rattle.tables.proofs.Roster.{walk, laid-at, laid-length}
-use Rattle.sound.specs.Checks.{lastOf, endingSound, fitBy, soundAt, soundTo, Marks, Run}
+use Rattle.sound.specs.declared.element.Pass.{Pass}
+use Rattle.sound.specs.declared.element.Pass.the-variants.{Sound, Broken}
+use Rattle.sound.specs.Checks.{lastOf, endingSound, fitBy, soundAt, soundTo, emptyFrom, passSound, Marks, Run}
+use Rattle.sound.proofs.Empty.{counts-most, empty-most, empty-next, shelves-of, tells-broken, tells-sound}
 use Rattle.sound.proofs.Holding.{hold-none}
 use Rattle.sound.proofs.Once.{stands-twice, stands-once, stands-none, mark-new, mark-none}
 
@@ -50,17 +54,25 @@ unfolding when
 same true = refl
 same false = refl
 
-pub elements-by : (u top : ℕ) (ss : List Slot) (es : List ℕ) (n : ℕ) → n ≡ length ss → (z : Bool)
-    → z ≡ allOf (eqb (length es) (elementSize * n) ∷ soundTo u top ss es (length ss) ∷ []) → z ≡ elementsSound ss u top es
-unfolding elementsSound soundTo soundAt allOf when
-elements-by u top ss es n is z e =
+-- the lengths, then what the pass tells, are the elements with the panel's number
+pub elements-by : (u top panel : ℕ) (ss : List Slot) (es : List ℕ) (n : ℕ) → n ≡ length ss → (z : Bool)
+    → z ≡ allOf (eqb (length es) (elementSize * n) ∷ passSound u top panel ss es ∷ [])
+    → z ≡ allOf (elementsSound ss u top es ∷ eqb panel (emptyShelves ss es) ∷ [])
+unfolding elementsSound passSound soundTo soundAt allOf when
+elements-by u top panel ss es n is z e =
     let all = below-all (length ss)
     ((λ p. stockSound top ss (kindAt ss p) (volume es p) (source es p) (mark es p))
     ∷ (λ p. holdSound u (holder es p) (id es p))
     ∷ (λ p. eqb (zeroByte es p) 0)
     ∷ once es
     ∷ []) in
-    e ∙ rw is (ap (λ (b : Bool). when (eqb (length es) (elementSize * length ss)) b false) (same (soundTo u top ss es (length ss)) ∙ all))
+    e ∙ rw (is, ← all) (go (eqb (length es) (elementSize * length ss)) (soundTo u top ss es (length ss)) (eqb panel (emptyShelves ss es)))
+  where
+    go : (a b c : Bool) → when a (when (when b (when c true false) false) true false) false ≡ when (when a b false) (when c true false) false
+    go true true true = refl
+    go true true false = refl
+    go true false c = refl
+    go false b c = refl
 
 -- ---- an element by itself
 
@@ -119,26 +131,42 @@ module _ (es : List ℕ) (p : ℕ) where
       let z : byte es (elementAt p + 5) ≡ 0 = ap (byte es) (sym i) ∙ both .1 in
       rw z (hold-none u (byte es (elementAt p + 4)) 0 (both .0))
 
--- ---- the places of a run: those before p are passed
+-- ---- the places of a run: those before p are passed, and the empty ones among them counted
 
 -- what was not sound tells nothing of the marks
 pub never : {P : Type 0} → false ≡ true → P
 never e = absurd (let y : _≡_ {A = ℕ} 0 1 = cc in let w : ⊥ = omega arith in w)
 
 module _ (u top : ℕ) (ss : List Slot) (es : List ℕ) (kind first end : ℕ) where
-  pub record Passing (seen₀ seen : List ℕ) (p : ℕ) : Type 0 where
+  pub record Passing (seen₀ seen : List ℕ) (empty p : ℕ) : Type 0 where
     pub begun : first ≤ p
     pub far : p ≤ end
+    pub few : empty ≤ p
+    pub counted : empty + emptyFrom es p (end - p) ≡ emptyFrom es first (end - first)
     pub so-far : soundTo u top ss es p ≡ true
     pub as-long : length seen ≡ length seen₀
     pub marked : Marks es p seen
 
-  module _ (seen₀ : List ℕ) (run : Run u top ss es kind first end seen₀) where
-    pub pass-begins : Passing seen₀ seen₀ first
-    pass-begins =
-        record { begun = omega arith; far = run .in-order; so-far = run .so-far; as-long = refl; marked = run .marked }
+  -- what the code tells where it stops, with the marks that it leaves
+  abbrev Tells : List ℕ → Pass → Type 0
+  Tells seen r =
+      (r ≡ when (soundTo u top ss es end) (Sound (emptyFrom es first (end - first))) Broken)
+      × (soundTo u top ss es end ≡ true → Marks es end seen)
 
-    module _ (seen : List ℕ) (p : ℕ) (at : Passing seen₀ seen p) where
+  module _ (seen₀ : List ℕ) (run : Run u top ss es kind first end seen₀) where
+    pub pass-begins : Passing seen₀ seen₀ 0 first
+    pass-begins =
+        record {
+          begun = omega arith;
+          far = run .in-order;
+          few = omega arith;
+          counted = zero-add (emptyFrom es first (end - first));
+          so-far = run .so-far;
+          as-long = refl;
+          marked = run .marked;
+        }
+
+    module _ (seen : List ℕ) (empty p : ℕ) (at : Passing seen₀ seen empty p) where
       -- the code's test b of the element by itself
       module _ (h : p < end) (last : ℕ) (limit : last ≡ lastOf top kind) (b : Bool) (is : b ≡ fitBy u last ss es kind p) where
         whole : soundAt u top ss es p ≡ when b (once es p) false
@@ -160,22 +188,27 @@ module _ (u top : ℕ) (ss : List Slot) (es : List ℕ) (kind first end : ℕ) w
             go true false s m h z = refl
             go false b s m h z = refl
 
-        stops : soundAt u top ss es p ≡ false → false ≡ soundTo u top ss es end
-        unfolding soundTo
-        stops e = sym (below-fails end (soundAt u top ss es) p h e)
-
-        goes : (s : List ℕ) → soundAt u top ss es p ≡ true → length s ≡ length seen → Marks es (p + 1) s → Passing seen₀ s (p + 1)
+        stops : soundAt u top ss es p ≡ false → Tells seen Broken
         unfolding soundTo when
-        goes s e l m =
+        stops e =
+            let f : soundTo u top ss es end ≡ false = below-fails end (soundAt u top ss es) p h e in
+            (rw f, λ t. never (sym f ∙ t))
+
+        goes : (s : List ℕ) (n : ℕ) → soundAt u top ss es p ≡ true → length s ≡ length seen → Marks es (p + 1) s
+            → n ≡ empty + when (eqb (volume es p) 0) 1 0 → Passing seen₀ s n (p + 1)
+        unfolding soundTo when
+        goes s n e l m c =
             record {
               begun = omega (arith, at .begun);
               far = omega arith;
+              few = omega (arith, at .few, counts-most (eqb (volume es p) 0) 1);
+              counted = omega (arith, at .counted, empty-next es p end h);
               so-far = below-step p (soundAt u top ss es) ∙ rw (e, at .so-far);
               as-long = l ∙ at .as-long;
               marked = m;
             }
 
-        pub pass-unfit : not b ≡ true → false ≡ soundTo u top ss es end
+        pub pass-unfit : not b ≡ true → Tells seen Broken
         unfolding when
         pass-unfit t = stops (whole ∙ rw (not-true b t))
 
@@ -192,25 +225,38 @@ module _ (u top : ℕ) (ss : List Slot) (es : List ℕ) (kind first end : ℕ) w
               omega (arith, run .numbers, at .as-long, last-most top kind)
 
           module _ (some : v ≢ 0) where
-            pub pass-twice : getD seen v 0 ≢ 0 → false ≡ soundTo u top ss es end
+            pub pass-twice : getD seen v 0 ≢ 0 → Tells seen Broken
             pass-twice d = stops (left ∙ stands-twice es seen p v (at .marked) reads some volume-small d)
 
-            pub pass-new : getD seen v 0 ≡ 0 → Passing seen₀ (set seen v 1) (p + 1)
+            pub pass-new : getD seen v 0 ≡ 0 → Passing seen₀ (set seen v 1) empty (p + 1)
+            unfolding when
             pass-new d =
-                goes (set seen v 1)
+                goes (set seen v 1) empty
                 (left ∙ stands-once es seen p v (at .marked) reads some volume-small d)
                 (length-set seen v 1)
                 (mark-new es seen p v (at .marked) reads some volume-small)
+                (rw (← reads, ne-eqb v 0 some) (omega arith))
 
-          pub pass-empty : v ≡ 0 → Passing seen₀ seen (p + 1)
-          pass-empty e = goes seen (left ∙ stands-none es seen p v (at .marked) reads e) refl (mark-none es seen p v (at .marked) reads e)
+          pub pass-empty : v ≡ 0 → Passing seen₀ seen (empty + 1) (p + 1)
+          unfolding when
+          pass-empty e =
+              goes seen (empty + 1)
+              (left ∙ stands-none es seen p v (at .marked) reads e)
+              refl
+              (mark-none es seen p v (at .marked) reads e)
+              (rw (← reads, eq-eqb v 0 e))
 
-      pub pass-all : end ≤ p → (true ≡ soundTo u top ss es end) × Marks es end seen
+      pub pass-all : end ≤ p → Tells seen (Sound empty)
+      unfolding when emptyFrom
       pass-all h =
           let e : p ≡ end = omega (arith, at .far) in
-          (rw (← e) (sym (at .so-far)), rw (← e) (at .marked))
+          let f : soundTo u top ss es end ≡ true = rw (← e) (at .so-far) in
+          let z : end - p ≡ 0 = omega arith in
+          let c = rw z at (at .counted) in
+          let n : empty ≡ emptyFrom es first (end - first) = omega arith in
+          (rw (f, n), λ t. rw (← e) (at .marked))
 
--- ---- one run after the other: the first k are passed, and the places before `first`
+-- ---- one run after the other: the first k are passed, and the places before `first`; the empty shelves among them are counted
 
 walk-first : (r : Range) (rs : List Range) (i : ℕ) → i < r .count → walk (r ∷ rs) i ≡ r .kind
 unfolding walk when
@@ -222,20 +268,24 @@ walk-later r rs i =
     let e : r .count + i - r .count ≡ i = omega arith in
     rw (le-ltb (r .count + i) (r .count) (omega arith), e)
 
-module _ (u top : ℕ) (runs : List Code) (es : List ℕ) where
-  pub record Filing (seen₀ seen : List ℕ) (first k : ℕ) : Type 0 where
+module _ (u top panel : ℕ) (runs : List Code) (es : List ℕ) where
+  pub record Filing (seen₀ seen : List ℕ) (shelves first k : ℕ) : Type 0 where
     pub far : k ≤ 4
+    pub few : shelves ≤ first
+    pub counted : shelves + emptyShelves (spread first (drop k (meant runs))) es ≡ emptyShelves (laid runs) es
     pub long : first + total (drop k (meant runs)) ≡ length (laid runs)
     pub rest : (i : ℕ) → kindAt (laid runs) (first + i) ≡ walk (drop k (meant runs)) i
     pub so-far : soundTo u top (laid runs) es first ≡ true
     pub as-long : length seen ≡ length seen₀
     pub marked : Marks es first seen
 
-  pub file-begins : (seen : List ℕ) → Marks es 0 seen → Filing seen seen 0 0
-  unfolding soundTo below
+  pub file-begins : (seen : List ℕ) → Marks es 0 seen → Filing seen seen 0 0 0
+  unfolding soundTo below laid
   file-begins seen m =
       record {
         far = omega arith;
+        few = omega arith;
+        counted = zero-add (emptyShelves (laid runs) es);
         long = rw zero-add (sym (laid-length runs));
         rest = λ i. rw zero-add (laid-at runs i);
         so-far = refl;
@@ -243,7 +293,7 @@ module _ (u top : ℕ) (runs : List Code) (es : List ℕ) where
         marked = m;
       }
 
-  module _ (four : length runs ≡ 4) (seen₀ seen : List ℕ) (first k : ℕ) (at : Filing seen₀ seen first k) where
+  module _ (four : length runs ≡ 4) (seen₀ seen : List ℕ) (shelves first k : ℕ) (at : Filing seen₀ seen shelves first k) where
     module _ (h : k < 4) where
       fits : first + getD runs k none .count + total (drop (suc k) (meant runs)) ≡ length (laid runs)
       unfolding total
@@ -271,34 +321,57 @@ module _ (u top : ℕ) (runs : List Code) (es : List ℕ) where
             marked = at .marked;
           }
 
-      module _ (b : Bool) (is : b ≡ soundTo u top (laid runs) es (first + getD runs k none .count)) where
-        pub file-on : not b ≡ false → (s : List ℕ) → length s ≡ length seen → (b ≡ true → Marks es (first + getD runs k none .count) s) → Filing seen₀ s (first + getD runs k none .count) (k + 1)
-        file-on t s l m =
-            record {
-              far = omega arith;
-              long = rw add-one fits;
-              rest = λ i.
-                  rw (add-assoc, add-one)
-                  (at .rest (getD runs k none .count + i) ∙ rw (meant-from runs k four h) (walk-later (meaning (getD runs k none)) (drop (suc k) (meant runs)) i));
-              so-far = sym is ∙ not-false b t;
-              as-long = l ∙ at .as-long;
-              marked = m (not-false b t);
-            }
+      -- what the pass over the run told
+      module _ (r : Pass) (is : r ≡ when (soundTo u top (laid runs) es (first + getD runs k none .count)) (Sound (emptyFrom es first (first + getD runs k none .count - first))) Broken) where
+        module _ (n : ℕ) (e : r ≡ Sound n) where
+          told : (soundTo u top (laid runs) es (first + getD runs k none .count) ≡ true) × (n ≡ emptyFrom es first (getD runs k none .count))
+          told =
+              let z : first + getD runs k none .count - first ≡ getD runs k none .count = omega arith in
+              tells-sound r _ (emptyFrom es first (getD runs k none .count)) (rw z at is) n e
 
-        pub file-stops : not b ≡ true → false ≡ soundTo u top (laid runs) es (length (laid runs))
-        unfolding soundTo
-        file-stops t = go (soundTo u top (laid runs) es (length (laid runs))) refl
+          pub file-fits : shelves + n ≤ length (laid runs)
+          file-fits = omega (arith, at .few, told .1, empty-most es first (getD runs k none .count), file-most)
+
+          pub file-on : (s : List ℕ) → length s ≡ length seen
+              → (soundTo u top (laid runs) es (first + getD runs k none .count) ≡ true → Marks es (first + getD runs k none .count) s)
+              → (m : ℕ) → m ≡ shelves + when (eqb (getD runs k none .kind) storage) n 0
+              → Filing seen₀ s m (first + getD runs k none .count) (k + 1)
+          unfolding spread
+          file-on s l w m c =
+              let run = getD runs k none in
+              let behind = spread (first + run .count) (drop (suc k) (meant runs)) in
+              let whole = rw (meant-from runs k four h) at (at .counted) in
+              let split = shelves-of es (run .count) (run .kind) (run .first) first behind in
+              let here = rw (told .1) at c in
+              record {
+                far = omega arith;
+                few = omega (arith, at .few, counts-most (eqb (run .kind) storage) n, told .1, empty-most es first (run .count));
+                counted = rw add-one (omega (arith, whole, split, here));
+                long = rw add-one fits;
+                rest = λ i.
+                    rw (add-assoc, add-one)
+                    (at .rest (run .count + i) ∙ rw (meant-from runs k four h) (walk-later (meaning run) (drop (suc k) (meant runs)) i));
+                so-far = told .0;
+                as-long = l ∙ at .as-long;
+                marked = w (told .0);
+              }
+
+        pub file-stops : r ≡ Broken → false ≡ passSound u top panel (laid runs) es
+        unfolding passSound soundTo
+        file-stops e = all-stop false _ _ (go (soundTo u top (laid runs) es (length (laid runs))) refl) refl
           where
             go : (x : Bool) → soundTo u top (laid runs) es (length (laid runs)) ≡ x → false ≡ x
-            go true e =
-                sym (not-true b t) ∙ is
+            go true f =
+                sym (tells-broken r _ _ is e)
                 ∙ below-of (first + getD runs k none .count) (soundAt u top (laid runs) es)
-                (λ p l. below-at (length (laid runs)) (soundAt u top (laid runs) es) e p (omega (arith, file-most)))
-            go false e = refl
+                (λ p l. below-at (length (laid runs)) (soundAt u top (laid runs) es) f p (omega (arith, file-most)))
+            go false f = refl
 
-    pub file-ends : 4 ≤ k → true ≡ soundTo u top (laid runs) es (length (laid runs))
-    unfolding total
+    pub file-ends : 4 ≤ k → eqb panel shelves ≡ passSound u top panel (laid runs) es
+    unfolding total spread emptyShelves passSound
     file-ends h =
         let e = rw (meant-end runs k four h) at (at .long) in
         let d : first ≡ length (laid runs) = omega arith in
-        rw (← d) (sym (at .so-far))
+        let c = rw (meant-end runs k four h) at (at .counted) in
+        let n : shelves ≡ emptyShelves (laid runs) es = omega arith in
+        all-go true _ _ _ (rw (← d) (sym (at .so-far))) refl (all-last _ _ (rw n))

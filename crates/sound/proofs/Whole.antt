@@ -4,11 +4,12 @@ use mathlib.Core.Path.{_≡_, refl, sym, ap, _∙_}
 use mathlib.Core.Bool.{Bool, false, not}
 use mathlib.Core.List.{List, [], _∷_}
 use lib.ListN.{length}
+use lib.Dec.{eqb}
 use borrow.Author.Tests.{not-false}
 use Rattle.rules.specs.Choice.{allOf}
-use Rattle.rules.specs.Tables.{Rest, lent, headSize, unit, volumes}
+use Rattle.rules.specs.Tables.{Rest, lent, headSize, unit, volumes, panel, emptyShelves}
 use Rattle.rules.specs.Roster.{ranges, sorted}
-use Rattle.rules.specs.Sound.{headSound, restSound, elementsSound, sound}
+use Rattle.rules.specs.Sound.{headSound, restSound, elementsSound, panelSound, sound}
 use Rattle.rules.proofs.Soundness.{rest-true}
 use Rattle.tables.specs.declared.Range.{Range as Code}
 use Rattle.tables.specs.Ranges.{meant, laid, Runs}
@@ -18,10 +19,12 @@ use Rattle.sound_head.proofs.Tests.{all-eq-stop, all-stop}
 pub rest-top : (rest : Rest) (b : Bool) (top : ℕ) → b ≡ restSound rest → not b ≡ false → top ≡ volumes (rest .tags) → top ≤ 512
 rest-top rest b top e t is = rw is (rest-true rest (sym e ∙ not-false b t) .labels-fit .volumes-most)
 
-pub sound-by : (head : List ℕ) (runs : List Code) → Runs runs head → (es : List ℕ) (rest : Rest) (u top : ℕ) → u ≡ unit head → top ≡ volumes (rest .tags)
-    → (z : Bool) → z ≡ allOf (headSound head ∷ restSound rest ∷ elementsSound (laid runs) u top es ∷ []) → z ≡ sound (lent head es rest)
-unfolding sound
-sound-by head runs is es rest u top e f z w = rw (runs-laid runs head is, e, f) at w
+pub sound-by : (head : List ℕ) (runs : List Code) → Runs runs head → (es : List ℕ) (rest : Rest) (u top n : ℕ) → u ≡ unit head → top ≡ volumes (rest .tags)
+    → n ≡ panel head → (z : Bool)
+    → z ≡ allOf (headSound head ∷ restSound rest ∷ elementsSound (laid runs) u top es ∷ eqb n (emptyShelves (laid runs) es) ∷ [])
+    → z ≡ sound (lent head es rest)
+unfolding sound panelSound
+sound-by head runs is es rest u top n e f g z w = rw (runs-laid runs head is, e, f, g) at w
 
 -- a head of another length
 pub no-head : (head es : List ℕ) (rest : Rest) → (length head ≡ headSize → ⊥) → false ≡ sound (lent head es rest)

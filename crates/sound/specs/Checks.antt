@@ -1,12 +1,12 @@
 -- What the parts of the check are handed, and what they tell of the part of a table that they look at. Assumes nothing.
-use Prim.Native.Nat.{ℕ, _*_, _<_, _≤_}
+use Prim.Native.Nat.{ℕ, zero, suc, _+_, _*_, _<_, _≤_}
 use mathlib.Core.Path.{_≡_}
 use mathlib.Core.List.{List, [], _∷_}
 use mathlib.Core.Bool.{Bool, true}
 use lib.ListN.{length, getD}
 use lib.Dec.{eqb, leb}
 use Rattle.rules.specs.Choice.{when, allOf, differ, below}
-use Rattle.rules.specs.Tables.{elementSize, volume, source, mark, holder, id, zeroByte}
+use Rattle.rules.specs.Tables.{elementSize, volume, source, mark, holder, id, zeroByte, emptyShelves}
 use Rattle.rules.specs.Roster.{Slot, kindAt, transport}
 use Rattle.rules.specs.Sound.{sourceSound, markSound, stockSound, holdSound, once}
 
@@ -43,6 +43,15 @@ soundAt u top ss elements p =
 -- of each of the first n
 unfoldable pub soundTo : ℕ → ℕ → List Slot → List ℕ → ℕ → Bool
 soundTo u top ss elements n = below n (soundAt u top ss elements)
+
+-- how many of the n places from p on are empty
+unfoldable pub emptyFrom : List ℕ → ℕ → ℕ → ℕ
+emptyFrom elements p zero = 0
+emptyFrom elements p (suc n) = when (eqb (volume elements p) 0) 1 0 + emptyFrom elements (suc p) n
+
+-- each element is sound, and as many shelves are empty as the panel shows
+unfoldable pub passSound : ℕ → ℕ → ℕ → List Slot → List ℕ → Bool
+passSound u top panel ss elements = allOf (soundTo u top ss elements (length ss) ∷ eqb panel (emptyShelves ss elements) ∷ [])
 
 -- ---- the volume numbers that were seen
 

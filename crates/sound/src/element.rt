@@ -1,13 +1,16 @@
-// The elements in one pass: what stands in each, who holds it, its last byte, and that no volume stands twice.
+// The elements in one pass: what stands in each, who holds it, its last byte, that no volume stands twice, and how many shelves are empty.
 use tables::Range;
 ghost use mathlib.Core.Path.{_≡_};
 ghost use mathlib.Core.Bool.{true};
-ghost use Prim.Native.Nat.{_+_, _*_, _<_, _≤_};
+ghost use mathlib.Core.List.{[], _∷_};
+ghost use Prim.Native.Nat.{_+_, _-_, _*_, _<_, _≤_};
 ghost use lib.ListN.{length};
-ghost use Rattle.rules.specs.Tables.{elementSize, elementAt, holder, id};
+ghost use lib.Dec.{eqb};
+ghost use Rattle.rules.specs.Choice.{when, allOf};
+ghost use Rattle.rules.specs.Tables.{elementSize, elementAt, holder, id, emptyShelves};
 ghost use Rattle.rules.specs.Sound.{sourceSound, markSound, holdSound, elementsSound};
 ghost use Rattle.tables.specs.Ranges.{laid};
-ghost use Rattle.sound.specs.Checks.{lastOf, endingSound, fitBy, soundTo, Marks, Run};
+ghost use Rattle.sound.specs.Checks.{lastOf, endingSound, fitBy, soundTo, emptyFrom, passSound, Marks, Run};
 
 // A mark for each volume number, and none for 0.
 const SEEN: usize = layout::MOST_VOLUMES + 1;
@@ -120,7 +123,14 @@ fn fits(runs: [Range; 4], unit: u8, last: usize, kind: u8, elements: &[u8], p: u
     held_sound(unit, elements, p)
 }
 
-// The places of a run: each by itself, and "0 aside, stands at most once", with a mark for each volume number seen.
+// What the places of a run tell: all are sound, and so many are empty; or one is not.
+enum Pass {
+    Sound(usize),
+    Broken,
+}
+
+// The places of a run: each by itself, and "0 aside, stands at most once", with a mark for each volume number seen. The empty ones are
+// counted on the way.
 fn run_sound(
     runs: [Range; 4],
     unit: u8,
@@ -130,79 +140,95 @@ fn run_sound(
     end: usize,
     elements: &[u8],
     seen: &mut [u8],
-) -> bool
+) -> Pass
     requires { ⌜ Run unit top (laid runs) (now elements) kind first end (now seen) ⌝ }
-    ensures { λ r. ⌜ r ≡ soundTo unit top (laid runs) (now (elements .entry)) end ⌝ }
-    ensures { λ r. ⌜ (r ≡ true → Marks (now (elements .entry)) end (now (seen .exit))) ⌝ }
+    ensures { λ r. ⌜ r ≡ when (soundTo unit top (laid runs) (now (elements .entry)) end) (Pass.Sound (emptyFrom (now (elements .entry)) first (end - first))) Pass.Broken ⌝ }
+    ensures { λ _. ⌜ (soundTo unit top (laid runs) (now (elements .entry)) end ≡ true → Marks (now (elements .entry)) end (now (seen .exit))) ⌝ }
 {
     let last = last_of(top, kind);
+    let mut empty: usize = 0;
     let mut p = first;
     while p < end {
         if !fits(runs, unit, last, kind, elements, p) {
-            return false;
+            return Pass::Broken;
         }
         let v = tables::element::volume(elements, p) as usize;
         if v != 0 {
             if seen[v] != 0 {
-                return false;
+                return Pass::Broken;
             }
             seen[v] = 1;
+        } else {
+            empty += 1;
         }
         p += 1;
     }
-    true
+    Pass::Sound(empty)
 }
 
-// Every place, one run after the other, each once; no number is marked before the first.
-fn places_sound(runs: [Range; 4], unit: u8, top: usize, elements: &[u8], seen: &mut [u8]) -> bool
+// Every place, one run after the other, each once, and the panel's number by the empty ones among the shelves; no number is marked before
+// the first.
+fn places_sound(
+    runs: [Range; 4],
+    unit: u8,
+    top: usize,
+    panel: u16,
+    elements: &[u8],
+    seen: &mut [u8],
+) -> bool
     requires { ⌜ (top < length (now seen)) × Marks (now elements) 0 (now seen) ⌝ }
     requires { ⌜ length (now elements) ≡ elementSize * length (laid runs) ⌝ }
-    ensures { λ r. ⌜ r ≡ soundTo unit top (laid runs) (now (elements .entry)) (length (laid runs)) ⌝ }
+    ensures { λ r. ⌜ r ≡ passSound unit top panel (laid runs) (now (elements .entry)) ⌝ }
 {
+    let mut shelves: usize = 0;
     let mut first: usize = 0;
     let mut k: usize = 0;
     while k < 4 {
         let r = runs[k];
         let end = first + (r.count as usize);
-        if !run_sound(runs, unit, top, r.kind, first, end, elements, seen) {
+        let Pass::Sound(empty) = run_sound(runs, unit, top, r.kind, first, end, elements, seen)
+        else {
             return false;
+        };
+        if r.kind == layout::STORAGE {
+            shelves += empty;
         }
         first = end;
         k += 1;
     }
-    true
+    (panel as usize) == shelves
 }
 
 // Few volumes: only few marks are cleared.
-fn few_sound(runs: [Range; 4], unit: u8, top: usize, elements: &[u8]) -> bool
+fn few_sound(runs: [Range; 4], unit: u8, top: usize, panel: u16, elements: &[u8]) -> bool
     requires { ⌜ top < 64 ⌝ }
     requires { ⌜ length (now elements) ≡ elementSize * length (laid runs) ⌝ }
-    ensures { λ r. ⌜ r ≡ soundTo unit top (laid runs) (now (elements .entry)) (length (laid runs)) ⌝ }
+    ensures { λ r. ⌜ r ≡ passSound unit top panel (laid runs) (now (elements .entry)) ⌝ }
 {
     let mut seen = [0u8; FEW];
-    places_sound(runs, unit, top, elements, &mut seen)
+    places_sound(runs, unit, top, panel, elements, &mut seen)
 }
 
 // As many volumes as there may be.
-fn many_sound(runs: [Range; 4], unit: u8, top: usize, elements: &[u8]) -> bool
+fn many_sound(runs: [Range; 4], unit: u8, top: usize, panel: u16, elements: &[u8]) -> bool
     requires { ⌜ top ≤ 512 ⌝ }
     requires { ⌜ length (now elements) ≡ elementSize * length (laid runs) ⌝ }
-    ensures { λ r. ⌜ r ≡ soundTo unit top (laid runs) (now (elements .entry)) (length (laid runs)) ⌝ }
+    ensures { λ r. ⌜ r ≡ passSound unit top panel (laid runs) (now (elements .entry)) ⌝ }
 {
     let mut seen = [0u8; SEEN];
-    places_sound(runs, unit, top, elements, &mut seen)
+    places_sound(runs, unit, top, panel, elements, &mut seen)
 }
 
-// The elements of the runs, where the unit's holder and the last volume number are these.
-pub fn elements_sound(runs: [Range; 4], unit: u8, top: usize, elements: &[u8]) -> bool
+// The elements of the runs, where the unit's holder, the last volume number and the number that the panel shows are these.
+pub fn elements_sound(runs: [Range; 4], unit: u8, top: usize, panel: u16, elements: &[u8]) -> bool
     requires { ⌜ top ≤ 512 ⌝ }
-    ensures { λ r. ⌜ r ≡ elementsSound (laid runs) unit top (now (elements .entry)) ⌝ }
+    ensures { λ r. ⌜ r ≡ allOf (elementsSound (laid runs) unit top (now (elements .entry)) ∷ eqb panel (emptyShelves (laid runs) (now (elements .entry))) ∷ []) ⌝ }
 {
     if elements.len() != layout::ELEMENT_SIZE * tables::total(runs) {
         return false;
     }
     if top < FEW {
-        return few_sound(runs, unit, top, elements);
+        return few_sound(runs, unit, top, panel, elements);
     }
-    many_sound(runs, unit, top, elements)
+    many_sound(runs, unit, top, panel, elements)
 }

@@ -50,7 +50,7 @@ fn no_runs() -> [Range; 4] {
     [none, none, none, none]
 }
 
-// The head of these ranges, then what no call writes, then the elements by the runs of the ranges.
+// The head of these ranges, then what no call writes, then the elements by the runs of the ranges, with the number that the panel shows.
 fn parts_sound(
     rs: [Range; 4],
     runs: [Range; 4],
@@ -74,6 +74,7 @@ fn parts_sound(
         runs,
         tables::head::unit(head),
         tables::volumes(tags),
+        tables::head::panel(head),
         elements,
     )
 }

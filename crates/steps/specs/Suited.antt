@@ -1,10 +1,9 @@
 -- What the commands stand on. Assumes nothing.
-use Prim.Native.Nat.{ℕ, _*_, _≤_}
+use Prim.Native.Nat.{ℕ, _≤_}
 use mathlib.Core.Path.{_≡_}
 use mathlib.Core.List.{List}
 use lib.ListN.{length}
-use Rattle.rules.specs.Tables.{elementSize, mostElements, hosts}
-use Rattle.rules.specs.Roster.{roster}
+use Rattle.rules.specs.Tables.{hosts}
 use Rattle.tables.specs.declared.Range.{Range}
 use Rattle.operation.specs.declared.Operation.{Operation}
 use Rattle.operation.specs.Meaning.{Fitting}
@@ -14,8 +13,6 @@ use Rattle.listing.specs.Counting.{Readable}
 
 -- of the tables: sound ones have it, whatever else is lent
 pub record Suited (runs : List Range) (head elements tags blank : List ℕ) : Type 0 where
-  pub records : length elements ≡ elementSize * length (roster head)
-  pub few : length (roster head) ≤ mostElements
   pub ready-to-move : Ready runs head elements
   pub ready-to-list : (host : ℕ) (block : List ℕ) → host ≤ hosts → length block ≡ 12 → Readable runs head (stock elements tags blank) host block
 

@@ -6,19 +6,17 @@ use mathlib.Core.Logic.{_≢_}
 use mathlib.Core.Bool.{Bool, true, false, not}
 use mathlib.Core.List.{List}
 use lib.ListN.{length}
-use lib.Dec.{eqb, leb, ltb}
-use borrow.Author.Tests.{eqb-true, ltb-true, lt-leb, le-leb, ltb-false}
+use borrow.Author.Tests.{eqb-true}
 use Rattle.rules.specs.Choice.{when, differ}
 use Rattle.rules.specs.Tables.{Tables, elementSize, elementAt, places}
 use Rattle.rules.specs.Roster.{Slot, roster, kindOf, placeOf, transport, port}
-use Rattle.rules.specs.Moves.{noTransport, noPlace}
+use Rattle.rules.specs.Moves.{noTransport}
 use Rattle.rules.specs.Events.{noPort}
-use Rattle.rules.specs.Holds.{unknown, address}
 use Rattle.rules.proofs.Ladder.{differ-true}
 use Rattle.rules.proofs.Places.{place-in}
 use Rattle.tables.specs.declared.Spot.{Spot}
 use Rattle.tables.specs.declared.Types.{Types}
-use Rattle.tables.specs.declared.Types.the-variants.{Any, Transport, Place, Port}
+use Rattle.tables.specs.declared.Types.the-variants.{Any, Transport, Port}
 use Rattle.tables.specs.declared.Found.{Found}
 use Rattle.tables.specs.declared.Found.the-variants.{At, Nothing}
 use Rattle.tables.specs.LookUp.{admits, found, onFound, spotOf}
@@ -59,7 +57,6 @@ admits-some : (ts : Types) (k : ℕ) → admits ts k ≡ true → k ≢ 0
 unfolding admits
 admits-some Any k e = differ-true k 0 e
 admits-some Transport k e = λ z. omega (arith, eqb-true k transport e)
-admits-some Place k e = λ z. omega (arith, ltb-true transport k e)
 admits-some Port k e = λ z. omega (arith, eqb-true k port e)
 
 -- ---- what callers learn: the answer f of a look-up of the address a
@@ -105,25 +102,9 @@ pub no-transport-is : (t : Tables) (a : ℕ) → noTransport t a ≡ not (admits
 unfolding noTransport differ admits
 no-transport-is t a = refl
 
-pub no-place-is : (t : Tables) (a : ℕ) → noPlace t a ≡ not (admits Place (kindOf (roster (t .head)) a))
-unfolding noPlace admits
-no-place-is t a = go (ltb transport (kindOf (roster (t .head)) a)) refl
-  where
-    go : (b : Bool) → ltb transport (kindOf (roster (t .head)) a) ≡ b → leb (kindOf (roster (t .head)) a) transport ≡ not b
-    go true e = lt-leb (kindOf (roster (t .head)) a) transport (ltb-true transport (kindOf (roster (t .head)) a) e)
-    go false e = le-leb (kindOf (roster (t .head)) a) transport (ltb-false transport (kindOf (roster (t .head)) a) e)
-
 pub no-port-is : (t : Tables) (a : ℕ) → noPort t a ≡ not (admits Port (kindOf (roster (t .head)) a))
 unfolding noPort differ admits
 no-port-is t a = refl
-
-pub unknown-is : (ss : List Slot) (list : List ℕ) (k : ℕ) → unknown ss list k ≡ not (admits Any (kindOf ss (address list k)))
-unfolding unknown differ admits
-unknown-is ss list k = go (eqb (kindOf ss (address list k)) 0)
-  where
-    go : (b : Bool) → b ≡ not (not b)
-    go true = refl
-    go false = refl
 
 -- such a test b, after the look-up
 module _ (ts : Types) (ss : List Slot) (a : ℕ) (b : Bool) (asks : b ≡ not (admits ts (kindOf ss a))) (f : Found) (is : f ≡ found ts ss a) where

@@ -2,20 +2,19 @@
 use Prim.Native.Nat.{ℕ}
 use mathlib.Core.List.{List}
 use mathlib.Core.Bool.{Bool}
-use lib.Dec.{eqb, ltb}
+use lib.Dec.{eqb}
 use Rattle.rules.specs.Choice.{when, differ}
 use Rattle.rules.specs.Roster.{Slot, placeOf, kindOf, transport, port}
 use Rattle.tables.specs.declared.Spot.{Spot}
 use Rattle.tables.specs.declared.Types.{Types}
-use Rattle.tables.specs.declared.Types.the-variants.{Any, Transport, Place, Port}
+use Rattle.tables.specs.declared.Types.the-variants.{Any, Transport, Port}
 use Rattle.tables.specs.declared.Found.{Found}
 use Rattle.tables.specs.declared.Found.the-variants.{At, Nothing}
 
--- an element of type k is looked for: any element; a transport; one that is no transport; an import/export element
+-- an element of type k is looked for: any element; a transport; an import/export element
 unfoldable pub admits : Types → ℕ → Bool
 admits Any k = differ k 0
 admits Transport k = eqb k transport
-admits Place k = ltb transport k
 admits Port k = eqb k port
 
 -- the place of an address, if it is an element's of these types

@@ -2,7 +2,7 @@
 ghost use mathlib.Core.Path.{_≡_};
 ghost use Prim.Native.Nat.{_+_, _≤_};
 ghost use lib.ListN.{length};
-ghost use Rattle.rules.specs.Tables.{headSize, hosts, unit, mask, key, asc, ascq, attention, attentionq, unitHeld, masked, sensed, attended};
+ghost use Rattle.rules.specs.Tables.{headSize, hosts, unit, mask, key, asc, ascq, attention, attentionq, panel, unitHeld, masked, sensed, attended, shown};
 
 // "Byte 16: unit holder"
 pub fn unit(head: &[u8]) -> u8
@@ -62,6 +62,14 @@ pub fn attentionq(head: &[u8], host: u8) -> u8
     head[1 + layout::attention_at(host)]
 }
 
+// The number that the panel shows: "how many storage elements are empty".
+pub fn panel(head: &[u8]) -> u16
+    requires { ⌜ headSize ≤ length (now head) ⌝ }
+    ensures { λ r. ⌜ r ≡ panel (now (head .entry)) ⌝ }
+{
+    wire::word_at(head, layout::PANEL)
+}
+
 // The unit's holder.
 pub fn hold_unit(head: &mut [u8], host: u8)
     requires { ⌜ headSize ≤ length (now head) ⌝ }
@@ -103,4 +111,12 @@ pub fn attend(head: &mut [u8], host: u8, asc: u8, ascq: u8)
     ensures { λ _. ⌜ now (head .exit) ≡ attended (now (head .entry)) host asc ascq ⌝ }
 {
     wire::put_two(head, layout::attention_at(host), asc, ascq);
+}
+
+// The number that the panel shows.
+pub fn show(head: &mut [u8], n: u16)
+    requires { ⌜ headSize ≤ length (now head) ⌝ }
+    ensures { λ _. ⌜ now (head .exit) ≡ shown (now (head .entry)) n ⌝ }
+{
+    wire::put_word(head, layout::PANEL, n);
 }

@@ -26,11 +26,10 @@ pub struct Spot {
     pub place: usize,
 }
 
-// Of which types an element is looked for: any, a transport, one that is no transport, an import/export element.
+// Of which types an element is looked for: any, a transport, an import/export element.
 pub enum Types {
     Any,
     Transport,
-    Place,
     Port,
 }
 
@@ -160,7 +159,7 @@ fn lies_in(r: Range, address: u32) -> bool
 }
 
 // Type and place of an address: those of the first run in which it lies; type 0, behind the last place, where it lies in none.
-fn spot_of(runs: [Range; 4], address: u32) -> Spot
+pub fn spot_of(runs: [Range; 4], address: u32) -> Spot
     ensures { λ r. ⌜ r ≡ spotOf (laid runs) address ⌝ }
 {
     let mut passed: usize = 0;
@@ -197,7 +196,6 @@ fn admits(types: Types, kind: u8) -> bool
     match types {
         Types::Any => kind != 0,
         Types::Transport => kind == layout::TRANSPORT,
-        Types::Place => kind > layout::TRANSPORT,
         Types::Port => kind == layout::PORT,
     }
 }

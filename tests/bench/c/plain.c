@@ -1,12 +1,13 @@
 /* The rules of the library in plain C, written for speed: what the command core is timed beside. It answers exactly what the core answers.
- * One loop judges the elements; an address is found from the ranges; RESERVE keeps a mark for each place. */
+ * One loop judges the elements and counts the empty shelves; an address is found from the ranges; RESERVE keeps a mark for each place; a move adds
+ * to the number of empty shelves and takes from it. */
 #include "plain.h"
 #include <stdbool.h>
 #include <string.h>
 
 enum { TRANSPORT = 1, STORAGE, PORT, DRIVE };
 enum { HOSTS = 8, MOST_ELEMENTS = 512, MOST_TRANSPORTS = 127, MOST_VOLUMES = 512, MOST_DESCRIPTORS = 32, DESCRIPTOR_BYTES = 6 };
-enum { UNIT = 16, MASK = 17, RECORDS = 18, RECORD_BYTES = 5 };
+enum { UNIT = 16, MASK = 17, RECORDS = 18, RECORD_BYTES = 5, FREE = 58 };
 enum { VOLUME = 0, SOURCE = 2, HOLDER = 4, ID = 5, MARK = 6, ZERO = 7 };
 enum { NOWHERE = MOST_ELEMENTS };
 enum { MODE_MOST_BYTES = 256 };
@@ -103,11 +104,13 @@ static bool elements_sound(const library *l)
 {
     uint8_t seen[MOST_VOLUMES + 1];
     const uint8_t *e = l->elements, unit = l->head[UNIT];
+    unsigned empty_shelves = 0;
     memset(seen, 0, l->volumes + 1);
     for (unsigned r = 0; r < l->filled; r++) {
-        const unsigned kind = l->ranges[r].kind, most = kind == TRANSPORT ? 0 : l->volumes;
+        const unsigned kind = l->ranges[r].kind, most = kind == TRANSPORT ? 0 : l->volumes, counted = kind == STORAGE;
         for (const uint8_t *end = e + SMC_ELEMENT_SIZE * l->ranges[r].count; e < end; e += SMC_ELEMENT_SIZE) {
             unsigned volume = get16(e + VOLUME), source = get16(e + SOURCE);
+            empty_shelves += counted & !volume;
             if (volume > most || e[ZERO])
                 return false;
             if (volume && seen[volume]++)
@@ -120,7 +123,7 @@ static bool elements_sound(const library *l)
                 return false;
         }
     }
-    return true;
+    return empty_shelves == get16(l->head + FREE);
 }
 
 #define LENT head, head_len, elements, elements_len, tags, tags_len, blank, blank_len
@@ -250,11 +253,16 @@ static inline uint8_t *transport(const library *l, unsigned address)
     return place == NOWHERE || kind != TRANSPORT ? NULL : l->elements + SMC_ELEMENT_SIZE * place;
 }
 
-/* The record of an element that is no transport, null for none. */
-static inline uint8_t *spot(const library *l, unsigned address)
+/* An element that is no transport: its record, null for none, and whether it is a shelf. */
+typedef struct {
+    uint8_t *e;
+    bool shelf;
+} spot;
+
+static inline spot spot_of(const library *l, unsigned address)
 {
     unsigned kind = TRANSPORT, place = find(l, address, &kind);
-    return kind == TRANSPORT ? NULL : l->elements + SMC_ELEMENT_SIZE * place;
+    return (spot){kind == TRANSPORT ? NULL : l->elements + SMC_ELEMENT_SIZE * place, kind == STORAGE};
 }
 
 static inline bool others(const uint8_t *e, const request *q) { return e[HOLDER] && e[HOLDER] != q->host; }
@@ -268,15 +276,19 @@ static inline void fill(uint8_t *e, unsigned volume, unsigned source)
 }
 
 /* The source that a volume takes along: the shelf that it leaves, else the one that it had. */
-static inline unsigned shelf_of(const library *l, const uint8_t *e, unsigned address)
+static inline unsigned shelf_of(spot left, unsigned address) { return left.shelf ? address : get16(left.e + SOURCE); }
+
+/* The number of empty shelves, where one place was left and another filled. */
+static inline void count(library *l, spot left, spot filled)
 {
-    return is_shelf(l, address) ? address : get16(e + SOURCE);
+    put16(l->head + FREE, get16(l->head + FREE) + left.shelf - filled.shelf);
 }
 
 static smc_reply move(library *l, const request *q)
 {
     unsigned source = get16(q->block + 4), destination = get16(q->block + 6);
-    uint8_t *t = transport(l, get16(q->block + 2)), *s = spot(l, source), *d = spot(l, destination);
+    const spot from = spot_of(l, source), to = spot_of(l, destination);
+    uint8_t *t = transport(l, get16(q->block + 2)), *s = from.e, *d = to.e;
     if (!t || !s || !d)
         return WRONG_ADDRESS;
     if (others(t, q) || others(s, q) || others(d, q))
@@ -285,15 +297,17 @@ static smc_reply move(library *l, const request *q)
         return SOURCE_EMPTY;
     if (get16(d + VOLUME))
         return DESTINATION_FULL;
-    fill(d, get16(s + VOLUME), shelf_of(l, s, source));
+    fill(d, get16(s + VOLUME), shelf_of(from, source));
     fill(s, 0, 0);
+    count(l, from, to);
     return GOOD;
 }
 
 static smc_reply exchange(library *l, const request *q)
 {
     unsigned source = get16(q->block + 4), first = get16(q->block + 6), second = get16(q->block + 8), up, down, up_shelf, down_shelf;
-    uint8_t *t = transport(l, get16(q->block + 2)), *s = spot(l, source), *f = spot(l, first), *g = spot(l, second);
+    const spot from = spot_of(l, source), by = spot_of(l, first), to = spot_of(l, second);
+    uint8_t *t = transport(l, get16(q->block + 2)), *s = from.e, *f = by.e, *g = to.e;
     if (!t || !s || !f || !g || f == s)
         return WRONG_ADDRESS;
     if (others(t, q) || others(s, q) || others(f, q) || others(g, q))
@@ -304,11 +318,12 @@ static smc_reply exchange(library *l, const request *q)
         return SOURCE_EMPTY;
     if (g != s && get16(g + VOLUME))
         return DESTINATION_FULL;
-    up_shelf = shelf_of(l, s, source);
-    down_shelf = shelf_of(l, f, first);
+    up_shelf = shelf_of(from, source);
+    down_shelf = shelf_of(by, first);
     fill(s, 0, 0);
     fill(f, up, up_shelf);
     fill(g, down, down_shelf);
+    count(l, from, to);
     return GOOD;
 }
 

@@ -6,7 +6,7 @@ use core_ffi::{EmptySlices, Entries};
 use differential::call::Call;
 use differential::compare::{differences, make};
 use differential::generate::calls::{mode_block, named_entry, read_block};
-use differential::scene::Scene;
+use differential::scene::{Scene, HEAD_LENGTH};
 use reference::{Implementation, Reference, Request, TableBytes};
 
 const TRANSPORT: u16 = 0x0001;
@@ -29,7 +29,8 @@ pub fn library(elements: u16) -> TableBytes {
         .iter()
         .flat_map(|(first, count)| [first.to_be_bytes(), u16::to_be_bytes(*count)].concat())
         .collect();
-    head.resize(58, 0);
+    head.resize(HEAD_LENGTH - 2, 0);
+    head.extend((shelves / 2).to_be_bytes());
     let mut table = vec![0; 24];
     for shelf in 0..shelves {
         let (volume, source) = match shelf % 4 {

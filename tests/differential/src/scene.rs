@@ -3,6 +3,10 @@
 use reference::library::Kind;
 use reference::TableBytes;
 
+/// How many bytes a head has, and where the number of empty shelves stands in it.
+pub const HEAD_LENGTH: usize = 60;
+pub const EMPTY_SHELVES: usize = 58;
+
 /// An element's address and kind; its place in the table is its place in [`Scene::places`].
 #[derive(Clone, Copy, Debug, PartialEq, Eq)]
 pub struct Place {
@@ -35,7 +39,7 @@ impl Scene {
         places.extend((0x1000..=0x1003).map(|address| place(address, Kind::Storage)));
         let mut scene = Scene {
             tables: TableBytes::labelled(
-                [&ranges.concat()[..], &[0; 42]].concat(),
+                [&ranges.concat()[..], &[0; 44]].concat(),
                 vec![0; 56],
                 (0..108).collect(),
                 vec![0x20; 36],
@@ -44,6 +48,7 @@ impl Scene {
         };
         scene.set_volume(3, 1);
         scene.set_volume(5, 2);
+        scene.show_empty_shelves(2);
         scene
     }
 
@@ -73,8 +78,37 @@ impl Scene {
         }
     }
 
+    /// The volume alone; [`Scene::recount`] puts the number of empty shelves right.
     pub fn set_volume(&mut self, place: usize, volume: u16) {
         self.element(place)[..2].copy_from_slice(&volume.to_be_bytes());
+    }
+
+    /// How many storage elements are empty; a broken table may have fewer elements than places.
+    pub fn empty_shelves(&self) -> u16 {
+        let records = self.tables.elements.chunks_exact(8);
+        let empty = records.map(|record| record[..2] == [0, 0]);
+        let shelves = self.places.iter().map(|place| place.kind == Kind::Storage);
+        shelves
+            .zip(empty)
+            .filter(|&both| both == (true, true))
+            .count() as u16
+    }
+
+    /// The number of empty shelves that the head shows.
+    pub fn shown_empty_shelves(&self) -> u16 {
+        let head = &self.tables.head;
+        u16::from_be_bytes([head[EMPTY_SHELVES], head[EMPTY_SHELVES + 1]])
+    }
+
+    pub fn show_empty_shelves(&mut self, number: u16) {
+        self.tables.head[EMPTY_SHELVES..].copy_from_slice(&number.to_be_bytes());
+    }
+
+    /// The head shows the number of shelves that are empty, if it has its length.
+    pub fn recount(&mut self) {
+        if self.tables.head.len() == HEAD_LENGTH {
+            self.show_empty_shelves(self.empty_shelves());
+        }
     }
 
     /// 0 for none.

@@ -1,6 +1,7 @@
 //! Which outcomes a run has reached, how often, and which it must reach to count.
 
 mod mode;
+mod panel;
 mod shelves;
 
 use std::collections::BTreeMap;
@@ -14,6 +15,7 @@ use crate::compare::Made;
 use crate::generate::calls::COMMANDS;
 
 pub use mode::{ModeCut, ModeFault};
+pub use panel::{Change, Wrong};
 pub use shelves::{Had, Second, PLACES};
 
 /// "512 elements in four pages, with tags"
@@ -129,6 +131,14 @@ pub enum Outcome {
     Exchanged((Kind, Had), (Kind, Had), Second),
     /// House number 1: the kind of the element that stands as a source, none for no element's address.
     WrongSource(Option<Kind>),
+    /// GOOD: the kind of the source, and of a second destination that is not the source.
+    ExchangedTo(Kind, Kind),
+    /// GOOD: the number of empty shelves after the call.
+    EmptyShelves(First, Change),
+    /// The same, where the high byte of the number changed.
+    EmptyShelvesPast255(First, Change),
+    /// House number 1: how the number of empty shelves is wrong.
+    WrongEmptyShelves(Wrong),
     /// GOOD, with the last of 127 transports named.
     LastOfMostTransports(First),
 }
@@ -173,6 +183,12 @@ impl fmt::Display for Outcome {
                 Some(kind) => format!("not sound: source is of kind {kind:?}"),
                 None => "not sound: source is no element".into(),
             },
+            Outcome::ExchangedTo(source, second) => format!("A6h: {source:?}, second {second:?}"),
+            Outcome::EmptyShelves(first, change) => format!("{first}: empty shelves {change:?}"),
+            Outcome::EmptyShelvesPast255(first, change) => {
+                format!("{first}: empty shelves {change:?}, in the high byte too")
+            }
+            Outcome::WrongEmptyShelves(wrong) => format!("not sound: empty shelves {wrong:?}"),
             Outcome::LargestListing => "listing of 26,664 bytes".into(),
             Outcome::LastOfMostTransports(first) => {
                 format!("{first}: GOOD by the last of 127 transports")
@@ -238,6 +254,9 @@ fn outcomes(before: &TableBytes, call: &Call, made: &Made) -> Vec<Outcome> {
         if broken == Some(Clause::SourceAddress) {
             reached.extend(shelves::wrong_source(before));
         }
+        if broken == Some(Clause::EmptyShelves) {
+            reached.push(panel::wrong(before));
+        }
     }
     if number == 7 {
         reached.push(Outcome::Preventers(made.reply.preventers));
@@ -292,6 +311,8 @@ fn command_outcomes(
                 First::Known(0xA5) => shelves::moved(before, block),
                 _ => shelves::exchanged(before, block),
             });
+            reached.extend(panel::second(before, first, block));
+            reached.extend(panel::changes(before, first, made));
             if names_last_of_most_transports(before, block) {
                 reached.push(Outcome::LastOfMostTransports(first));
             }
@@ -410,6 +431,7 @@ pub fn required() -> Vec<Outcome> {
     required.extend(required_listings());
     required.extend(mode::required());
     required.extend(shelves::required());
+    required.extend(panel::required());
     required.extend((1..=8).map(Outcome::Preventers));
     required.extend((1..=8).map(Outcome::Lowest));
     required.extend(required_lengths());

@@ -35,6 +35,8 @@ fn generated_tables_reach_the_edges_of_soundness() {
     assert!(some(
         &|scene| scene.is_element(1) && scene.is_element(65_535)
     ));
+    assert!(some(&|scene| scene.shown_empty_shelves() == 0));
+    assert!(some(&|scene| scene.shown_empty_shelves() > 255));
     assert!(some(&|scene| scene.volumes() == 0));
     assert!(some(&|scene| scene.volumes() == 512));
     assert!(some(

@@ -56,6 +56,8 @@ fn tables_stay_sound_and_no_volume_is_lost_or_found() {
             let expected = volumes_after(&before, &call, reply.number);
             assert_eq!(check(&scene.tables.lend()), Ok(()), "{call}");
             assert_eq!(volumes(&scene.tables), expected, "{call}");
+            let empty_shelves = scene.empty_shelves();
+            assert_eq!(scene.shown_empty_shelves(), empty_shelves, "{call}");
             if reply.number != 0 {
                 assert_eq!(scene.tables, before.tables, "{call}");
             }

@@ -4,6 +4,7 @@
 use std::mem::take;
 
 use differential::harness::{Limits, Subject};
+use differential::scene::HEAD_LENGTH;
 use differential::{scenarios, DEFAULT_CALLS, DEFAULT_SEED};
 use reference::{Entry, Implementation, Reference, Reply, Request, Tables};
 
@@ -66,7 +67,7 @@ impl Wrapper {
 
 fn names_last_transport(head: &[u8], block: &[u8]) -> bool {
     let two = |bytes: &[u8], at: usize| u32::from(u16::from_be_bytes([bytes[at], bytes[at + 1]]));
-    let readable = head.len() == 58 && block.len() == 12 && block[0] == 0xA5;
+    let readable = head.len() == HEAD_LENGTH && block.len() == 12 && block[0] == 0xA5;
     readable && two(head, 2) == 127 && two(block, 2) == two(head, 0) + 126
 }
 

@@ -28,7 +28,7 @@ extern "C" {
 }
 
 /// The clauses in the order of `smc_clause`, from 1 on.
-pub const CLAUSES: [Clause; 25] = [
+pub const CLAUSES: [Clause; 26] = [
     Clause::HeadLength,
     Clause::ElementCount,
     Clause::TransportCount,
@@ -54,6 +54,7 @@ pub const CLAUSES: [Clause; 25] = [
     Clause::UnitHeldAlone,
     Clause::ZeroByte,
     Clause::VolumeTwice,
+    Clause::EmptyShelves,
 ];
 
 impl Fault {

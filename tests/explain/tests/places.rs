@@ -60,13 +60,13 @@ fn sound_tables_have_no_fault() {
 fn lengths() {
     expect(
         |s| s.tables.head.push(0),
-        fault(1, 59),
-        "clause 1, the head has 58 bytes: length 59",
+        fault(1, 61),
+        "clause 1, the head has 60 bytes: length 61",
     );
     expect(
         |s| s.tables.head.clear(),
         fault(1, 0),
-        "clause 1, the head has 58 bytes: length 0",
+        "clause 1, the head has 60 bytes: length 0",
     );
     expect(
         |s| s.tables.tags.resize(36 * 513, 0),
@@ -180,7 +180,10 @@ fn hosts() {
 #[test]
 fn elements() {
     let with = |place: usize, bytes: [u8; 8]| {
-        move |s: &mut Scene| s.element(place).copy_from_slice(&bytes)
+        move |s: &mut Scene| {
+            s.element(place).copy_from_slice(&bytes);
+            s.recount();
+        }
     };
     expect(with(2, [0, 4, 0, 0, 0, 0, 0, 0]), of_element(16, 2, 4), "clause 16, a volume number is at most the number of tags: element 0100h (place 2): volume 4");
     expect(
@@ -239,6 +242,17 @@ fn holders() {
 }
 
 #[test]
+fn empty_shelves() {
+    let wrong = |number: u64, empty: u64| Fault {
+        other: empty,
+        ..fault(26, number)
+    };
+    expect(|s| s.show_empty_shelves(1), wrong(1, 2), "clause 26, the head's last two bytes are the number of empty storage elements: number 1 and not 2");
+    expect(|s| s.show_empty_shelves(0x0102), wrong(258, 2), "clause 26, the head's last two bytes are the number of empty storage elements: number 258 and not 2");
+    expect(|s| s.set_volume(6, 3), wrong(2, 1), "clause 26, the head's last two bytes are the number of empty storage elements: number 2 and not 1");
+}
+
+#[test]
 fn the_text_is_cut_to_the_buffer() {
     let fault = broken(|s| s.hold_unit(9));
     let whole = fault.text();
@@ -255,6 +269,10 @@ fn the_text_is_cut_to_the_buffer() {
 fn a_number_that_is_no_clause_has_a_text_too() {
     assert_eq!(clause_text(0), "the tables are sound");
     assert_eq!(clause_text(25), "a volume stands in one element at most");
+    assert_eq!(
+        clause_text(26),
+        "the head's last two bytes are the number of empty storage elements"
+    );
     for clause in [CLAUSES.len() as u32 + 1, 1_000, u32::MAX] {
         assert_eq!(clause_text(clause), "no clause has this number");
         assert_eq!(fault(clause, 1).text(), "no clause has this number");

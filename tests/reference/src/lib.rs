@@ -1,4 +1,4 @@
-//! The rules of document 01, and request One of document 02, over plain records.
+//! The rules of document 01, with requests One to Four of document 02, over plain records.
 //!
 //! The lent bytes are read into a [`library::Library`], the rules work on that, and the result is written
 //! back. It is meant to be read beside these documents and to be compared with the command core; it is not
@@ -12,6 +12,7 @@ mod interface;
 pub mod library;
 mod mode_sense;
 mod moves;
+mod panel;
 mod records;
 mod refusal;
 mod reservations;
@@ -43,11 +44,13 @@ impl Reference {
         let mut library = self.read(tables)?;
         let labels = labels(tables);
         let call = command::accept(&request, labels, self.rules)?;
+        let before = library.clone();
         let outcome = command::execute(&mut library, &call);
         let room = command::accept_answer_buffer(&call, &outcome, request.answer.len());
         let writes_anyway = Mutation::BufferTooShortStillClearsSense;
         if room.is_ok() || self.rules.broken_by(writes_anyway) {
-            records::write(&library, tables);
+            let shown = panel::shown(&before, &library, call.command(), self.rules);
+            records::write(&library, shown, tables);
         }
         room?;
         Ok(finish(outcome, request.answer))
@@ -60,8 +63,10 @@ impl Reference {
         happens: impl FnOnce(&mut Library, Labels) -> Result<(), Refusal>,
     ) -> Reply {
         let result = self.read(&tables).and_then(|mut library| {
+            let before = library.clone();
             happens(&mut library, labels(&tables))?;
-            records::write(&library, &mut tables);
+            let shown = panel::shown(&before, &library, None, self.rules);
+            records::write(&library, shown, &mut tables);
             Ok(Reply::default())
         });
         result.unwrap_or_else(Refusal::reply)

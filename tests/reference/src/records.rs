@@ -7,13 +7,14 @@ use crate::bytes::two;
 use crate::interface::Tables;
 use crate::library::{Attention, Element, Host, HostNumber, Kind, Library, Reservation, Sense};
 
-pub(crate) const HEAD_LENGTH: usize = 58;
+pub(crate) const HEAD_LENGTH: usize = 60;
 pub(crate) const ELEMENT_LENGTH: usize = 8;
 const RANGE_LENGTH: usize = 4;
 const UNIT_HOLDER: usize = 16;
 const PREVENT_MASK: usize = 17;
 const HOSTS: usize = 18;
 const HOST_LENGTH: usize = 5;
+const EMPTY_SHELVES: usize = 58;
 
 /// One of the head's four ranges. Wider than the two-byte fields, so that no sum can wrap.
 #[derive(Clone, Copy, Debug)]
@@ -53,6 +54,7 @@ pub(crate) struct Records {
     pub(crate) unit_holder: u8,
     pub(crate) prevent_mask: u8,
     pub(crate) hosts: Vec<HostRecord>,
+    pub(crate) empty_shelves: u16,
     pub(crate) elements: Vec<ElementRecord>,
 }
 
@@ -75,10 +77,11 @@ impl Records {
         Records {
             unit_holder: tables.head[UNIT_HOLDER],
             prevent_mask: tables.head[PREVENT_MASK],
-            hosts: tables.head[HOSTS..]
+            hosts: tables.head[HOSTS..EMPTY_SHELVES]
                 .chunks_exact(HOST_LENGTH)
                 .map(read_host)
                 .collect(),
+            empty_shelves: two(tables.head, EMPTY_SHELVES),
             elements: places(ranges)
                 .into_iter()
                 .zip(tables.elements.chunks_exact(ELEMENT_LENGTH))
@@ -173,10 +176,11 @@ fn mask_bit(host: HostNumber) -> u8 {
 }
 
 /// The ranges never change, so they are not written.
-pub(crate) fn write(library: &Library, tables: &mut Tables) {
+pub(crate) fn write(library: &Library, empty_shelves: u16, tables: &mut Tables) {
     tables.head[UNIT_HOLDER] = library.unit_holder.map_or(0, HostNumber::number);
     tables.head[PREVENT_MASK] = library.preventing.iter().copied().map(mask_bit).sum();
-    let hosts = tables.head[HOSTS..].chunks_exact_mut(HOST_LENGTH);
+    tables.head[EMPTY_SHELVES..].copy_from_slice(&empty_shelves.to_be_bytes());
+    let hosts = tables.head[HOSTS..EMPTY_SHELVES].chunks_exact_mut(HOST_LENGTH);
     for (bytes, host) in hosts.zip(library.hosts.values()) {
         bytes.copy_from_slice(&host_bytes(host));
     }

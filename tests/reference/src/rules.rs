@@ -50,6 +50,16 @@ pub enum Mutation {
     PortIsSoundAsSource,
     TransportIsSoundAsSource,
 
+    // The number of empty shelves.
+    FewerEmptyShelvesAreSound,
+    MoreEmptyShelvesAreSound,
+    EmptyShelvesJudgedByLowByte,
+    EmptyShelvesKeptByMoveAlone,
+    FilledShelfNotCountedByExchange,
+    MoveBetweenShelvesCounted,
+    ImportFillsAShelf,
+    HighByteOfEmptyShelvesStays,
+
     // Reservations.
     FailedReserveFreesOldId,
     GrantedReserveKeepsOldId,
@@ -89,7 +99,7 @@ pub enum Mutation {
 impl Mutation {
     /// Every mutation but [`Mutation::NotJudged`].
     #[rustfmt::skip]
-    pub const SINGLE: [Mutation; 61] = [
+    pub const SINGLE: [Mutation; 69] = [
         Mutation::HostCutToOneByte,
         Mutation::EventAddressCutToTwoBytes,
         Mutation::ImportedVolumeCutToTwoBytes,
@@ -124,6 +134,14 @@ impl Mutation {
         Mutation::DriveIsSoundAsSource,
         Mutation::PortIsSoundAsSource,
         Mutation::TransportIsSoundAsSource,
+        Mutation::FewerEmptyShelvesAreSound,
+        Mutation::MoreEmptyShelvesAreSound,
+        Mutation::EmptyShelvesJudgedByLowByte,
+        Mutation::EmptyShelvesKeptByMoveAlone,
+        Mutation::FilledShelfNotCountedByExchange,
+        Mutation::MoveBetweenShelvesCounted,
+        Mutation::ImportFillsAShelf,
+        Mutation::HighByteOfEmptyShelvesStays,
         Mutation::FailedReserveFreesOldId,
         Mutation::GrantedReserveKeepsOldId,
         Mutation::ElementNamedTwiceIsHeldOnce,

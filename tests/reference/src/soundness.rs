@@ -4,6 +4,7 @@ use std::fmt;
 
 use crate::interface::Tables;
 use crate::library::{Kind, Labels};
+use crate::panel;
 use crate::records::{
     read_ranges, AddressRange, ElementRecord, Records, ELEMENT_LENGTH, HEAD_LENGTH,
 };
@@ -42,11 +43,12 @@ pub enum Clause {
     SenseKey,
     CodesWithoutKey,
     AttentionCodes,
+    EmptyShelves,
 }
 
 impl Clause {
     /// In the order of judging.
-    pub const ALL: [Clause; 25] = [
+    pub const ALL: [Clause; 26] = [
         Clause::HeadLength,
         Clause::BlankLength,
         Clause::TagsLength,
@@ -72,11 +74,12 @@ impl Clause {
         Clause::SenseKey,
         Clause::CodesWithoutKey,
         Clause::AttentionCodes,
+        Clause::EmptyShelves,
     ];
 
     fn words(self) -> &'static str {
         match self {
-            Clause::HeadLength => "head of 58 bytes",
+            Clause::HeadLength => "head of 60 bytes",
             Clause::BlankLength => "blank label of 36 bytes",
             Clause::TagsLength => "tags of whole labels",
             Clause::MostVolumes => "V at most 512",
@@ -101,6 +104,7 @@ impl Clause {
             Clause::SenseKey => "sense key at most 15",
             Clause::CodesWithoutKey => "key 0 has codes 0",
             Clause::AttentionCodes => "attention none, 28h/01h or 29h/00h",
+            Clause::EmptyShelves => "the true number of empty storage elements",
         }
     }
 }
@@ -139,6 +143,8 @@ pub(crate) fn judge(tables: &Tables, rules: Rules) -> Result<Records, Clause> {
     judge.places(&records.elements, &ranges)?;
     judge.holders(&records)?;
     judge.hosts(&records)?;
+    let shown = panel::is_true(records.empty_shelves, &records.library(), rules);
+    judge.require(shown, Clause::EmptyShelves)?;
     Ok(records)
 }
 

@@ -19,7 +19,7 @@ same-length : tie.Need-same-length
 same-length c = search needs
 
 returns : tie.Need-returns
-returns c = carried-by _ _ _ _ _ _ _ _ (c .before .before .shift .ensures) (search shelves)
+returns c = carried-by _ _ _ _ _ _ _ (c .before .before .shift .ensures) (search shelves)
 
 pub carry-spec : {M : Type 1} → statement M
 carry-spec = tie.close (tie.spec word-at-requires shelf-of-requires shift-requires same-length returns)

@@ -1,9 +1,8 @@
 -- `moves::exchange_spots` meets its contract. Assumes nothing.
-use Rattle.tables.proofs.LookUp.{at-yes, found-by}
-use Rattle.rules.proofs.Ladder.{eq-is, eq-not}
 use mathlib.Core.Path.{refl, sym, _∙_}
+use Rattle.rules.proofs.Ladder.{eq-is, eq-not}
 use Rattle.moves.specs.Judged.{exchangeSpots}
-use Rattle.moves.proofs.Answers.{same-by, looking, recorded}
+use Rattle.moves.proofs.Answers.{place-yes, same-by, looking, recorded}
 use borrow.Author.Needs.{needs}
 use Rattle.moves.proofs.exchange_spots.Statement.{statement}
 use Rattle.moves.proofs.exchange_spots.Tie as tie
@@ -17,49 +16,31 @@ word-at-requires-2 c κs = search needs
 word-at-requires-3 : tie.Need-word-at-requires-3
 word-at-requires-3 c κs = search needs
 
-cast-find : tie.Need-cast-find
-cast-find c = search needs
+cast-spot-of : tie.Need-cast-spot-of
+cast-spot-of c = search needs
 
-find-requires : tie.Need-find-requires
-find-requires c κs = search needs
-
-enum-known-from : tie.Need-enum-known-from
-enum-known-from c = search needs
-
-enum-told : tie.Need-enum-told
-enum-told c = search needs
+spot-of-requires : tie.Need-spot-of-requires
+spot-of-requires c κs = search needs
 
 returns : tie.Need-returns
 unfolding exchangeSpots
 returns c = (search looking depth 14, tt)
 
-cast-find-2 : tie.Need-cast-find-2
-cast-find-2 c = search needs
+cast-spot-of-2 : tie.Need-cast-spot-of-2
+cast-spot-of-2 c = search needs
 
-find-requires-2 : tie.Need-find-requires-2
-find-requires-2 c κs = search needs
-
-enum-known-first : tie.Need-enum-known-first
-enum-known-first c = search needs
-
-enum-told-2 : tie.Need-enum-told-2
-enum-told-2 c = search needs
+spot-of-requires-2 : tie.Need-spot-of-requires-2
+spot-of-requires-2 c κs = search needs
 
 returns-2 : tie.Need-returns-2
 unfolding exchangeSpots
 returns-2 c = (search looking depth 14, tt)
 
-cast-find-3 : tie.Need-cast-find-3
-cast-find-3 c = search needs
+cast-spot-of-3 : tie.Need-cast-spot-of-3
+cast-spot-of-3 c = search needs
 
-find-requires-3 : tie.Need-find-requires-3
-find-requires-3 c κs = search needs
-
-enum-known-second : tie.Need-enum-known-second
-enum-known-second c = search needs
-
-enum-told-3 : tie.Need-enum-told-3
-enum-told-3 c = search needs
+spot-of-requires-3 : tie.Need-spot-of-requires-3
+spot-of-requires-3 c κs = search needs
 
 returns-3 : tie.Need-returns-3
 unfolding exchangeSpots
@@ -68,19 +49,19 @@ returns-3 c = (search looking depth 14, tt)
 returns-4 : tie.Need-returns-4
 unfolding exchangeSpots
 returns-4 c =
-    let second = c .before .before in
+    let second = c .before in
     let farther = second .before .before in
-    let first = farther .before .before in
+    let first = farther .before in
     let nearer = first .before .before in
-    let from = nearer .before .before in
+    let from = nearer .before in
     let source = from .before .before in
     let eight = source .before .word-at3 .ensures in
     let six = source .before .before .word-at2 .ensures in
     let four = source .before .before .before .word-at .ensures in (
-      at-yes _ _ _ _ _ _ (found-by _ _ _ _ _ (source .find .ensures) four) (from .from .given .1)
-          (at-yes _ _ _ _ _ _ (found-by _ _ _ _ _ (nearer .find2 .ensures) six) (first .first .given .1)
-          (at-yes _ _ _ _ _ _ (found-by _ _ _ _ _ (farther .find3 .ensures) eight) (second .second .given .1)
-          (eq-is _ _ _ _ _ (sym six ∙ c .if1 .taken ∙ four) refl))),
+      place-yes _ _ _ _ _ _ (source .spot-of .ensures) four (from .if1 .left)
+          (place-yes _ _ _ _ _ _ (nearer .spot-of2 .ensures) six (first .if2 .left)
+          (place-yes _ _ _ _ _ _ (farther .spot-of3 .ensures) eight (second .if3 .left)
+          (eq-is _ _ _ _ _ (sym six ∙ c .if4 .taken ∙ four) refl))),
       tt,
     )
 
@@ -90,19 +71,19 @@ exchange-at-requires c κs = (search needs, (search recorded depth 4, (search re
 returns-5 : tie.Need-returns-5
 unfolding exchangeSpots
 returns-5 c =
-    let second = c .before .before .before in
+    let second = c .before .before in
     let farther = second .before .before in
-    let first = farther .before .before in
+    let first = farther .before in
     let nearer = first .before .before in
-    let from = nearer .before .before in
+    let from = nearer .before in
     let source = from .before .before in
     let eight = source .before .word-at3 .ensures in
     let six = source .before .before .word-at2 .ensures in
     let four = source .before .before .before .word-at .ensures in (
-      at-yes _ _ _ _ _ _ (found-by _ _ _ _ _ (source .find .ensures) four) (from .from .given .1)
-          (at-yes _ _ _ _ _ _ (found-by _ _ _ _ _ (nearer .find2 .ensures) six) (first .first .given .1)
-          (at-yes _ _ _ _ _ _ (found-by _ _ _ _ _ (farther .find3 .ensures) eight) (second .second .given .1)
-          (eq-not _ _ _ _ _ (λ e. c .before .if1 .left (six ∙ e ∙ sym four)) (same-by _ _ _ _ _ _ _ _ _ _ _ (c .exchange-at .ensures .0) eight four)))),
+      place-yes _ _ _ _ _ _ (source .spot-of .ensures) four (from .if1 .left)
+          (place-yes _ _ _ _ _ _ (nearer .spot-of2 .ensures) six (first .if2 .left)
+          (place-yes _ _ _ _ _ _ (farther .spot-of3 .ensures) eight (second .if3 .left)
+          (eq-not _ _ _ _ _ (λ e. c .before .if4 .left (six ∙ e ∙ sym four)) (same-by _ _ _ _ _ _ _ _ _ _ _ (c .exchange-at .ensures .0) eight four)))),
       c .exchange-at .ensures .1,
     )
 
@@ -113,20 +94,14 @@ exchange-spots-spec =
     word-at-requires
     word-at-requires-2
     word-at-requires-3
-    cast-find
-    find-requires
-    enum-known-from
-    enum-told
+    cast-spot-of
+    spot-of-requires
     returns
-    cast-find-2
-    find-requires-2
-    enum-known-first
-    enum-told-2
+    cast-spot-of-2
+    spot-of-requires-2
     returns-2
-    cast-find-3
-    find-requires-3
-    enum-known-second
-    enum-told-3
+    cast-spot-of-3
+    spot-of-requires-3
     returns-3
     returns-4
     exchange-at-requires

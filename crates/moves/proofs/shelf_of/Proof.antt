@@ -10,9 +10,6 @@ source-requires : tie.Need-source-requires
 unfolding places
 source-requires c κs = search needs
 
-kind-of-requires : tie.Need-kind-of-requires
-kind-of-requires c κs = search needs
-
 returns : tie.Need-returns
 unfolding shelfAt
 returns c = search ladder depth 10
@@ -22,4 +19,4 @@ unfolding shelfAt
 returns-2 c = search ladder depth 10
 
 pub shelf-of-spec : {M : Type 1} → statement M
-shelf-of-spec = tie.close (tie.spec source-requires kind-of-requires returns returns-2)
+shelf-of-spec = tie.close (tie.spec source-requires returns returns-2)

@@ -37,9 +37,9 @@ same-length c = search needs
 returns : tie.Need-returns
 returns c =
     let second = c .before .before .before .before .before .before in
-    swapped-by _ _ _ _ _ _ _ _ _ _ _ _ _ (c .before .before .fill2 .ensures) (second .shift .ensures) (search shelves)
-    (shelf-by _ _ _ _ _ _ (second .before .before .before .before .before .before .before .before .before .before .before .word-at .ensures) (search shelves))
-    (shelf-by _ _ _ _ _ _ (second .before .before .before .before .before .before .before .before .before .before .word-at2 .ensures) (second .before .before .before .before .before .before .before .before .shelf-of .ensures))
+    swapped-by _ _ _ _ _ _ _ _ _ _ _ _ (c .before .before .fill2 .ensures) (second .shift .ensures) (search shelves)
+    (shelf-by _ _ _ _ _ (second .before .before .before .before .before .before .before .before .before .before .before .word-at .ensures) (search shelves))
+    (shelf-by _ _ _ _ _ (second .before .before .before .before .before .before .before .before .before .before .word-at2 .ensures) (second .before .before .before .before .before .before .before .before .shelf-of .ensures))
 
 pub swap-spec : {M : Type 1} → statement M
 swap-spec = tie.close (tie.spec word-at-requires word-at-requires-2 shelf-of-requires shelf-of-requires-2 fill-requires shift-requires fill-requires-2 same-length returns)

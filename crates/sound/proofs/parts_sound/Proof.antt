@@ -1,6 +1,6 @@
 -- `sound::parts_sound` meets its contract. Assumes nothing.
 use Rattle.rules.specs.Sound.{sound}
-use Rattle.sound_head.proofs.Tests.{tests, all-not-go, all-last}
+use Rattle.sound_head.proofs.Tests.{tests, all-not-go}
 use Rattle.sound.proofs.Whole.{rest-top, sound-by}
 use borrow.Author.Needs.{needs}
 use Rattle.sound.proofs.parts_sound.Statement.{statement}
@@ -26,18 +26,22 @@ unit-requires c κs = search needs
 volumes-requires : tie.Need-volumes-requires
 volumes-requires c κs = search needs
 
+panel-requires : tie.Need-panel-requires
+panel-requires c κs = search needs
+
 elements-sound-requires : tie.Need-elements-sound-requires
 elements-sound-requires c κs =
-    let two = c .before .before in
-    rest-top _ _ _ (two .before .rest-sound .ensures) (two .if2 .left) (c .volumes .ensures)
+    let two = c .before .before .before in
+    rest-top _ _ _ (two .before .rest-sound .ensures) (two .if2 .left) (c .before .volumes .ensures)
 
 returns-3 : tie.Need-returns-3
 returns-3 c =
-    let two = c .before .before .before in
+    let read = c .before in
+    let two = read .before .before .before in
     let one = two .before .before in
-    sound-by _ _ (search needs) _ _ _ _ (c .before .before .unit .ensures) (c .before .volumes .ensures) _
+    sound-by _ _ (search needs) _ _ _ _ _ (read .before .before .unit .ensures) (read .before .volumes .ensures) (read .panel .ensures) _
     (all-not-go _ _ _ _ (one .before .sound .ensures) (one .if1 .left)
-    (all-not-go _ _ _ _ (two .before .rest-sound .ensures) (two .if2 .left) (all-last _ _ (c .elements-sound .ensures))))
+    (all-not-go _ _ _ _ (two .before .rest-sound .ensures) (two .if2 .left) (c .elements-sound .ensures)))
 
 pub parts-sound-spec : {M : Type 1} → statement M
 parts-sound-spec =
@@ -49,5 +53,6 @@ parts-sound-spec =
     returns-2
     unit-requires
     volumes-requires
+    panel-requires
     elements-sound-requires
     returns-3)

@@ -47,8 +47,8 @@ reserve-requires c κs =
     record {
       head-long = s .suited .ready-to-move .head-length;
       runs-are = s .suited .ready-to-move .runs-are;
-      elements-long = s .suited .records;
-      few = s .suited .few;
+      elements-long = s .suited .ready-to-move .records;
+      few = s .suited .ready-to-move .few;
       host-known = s .host-most;
       block-long = sized _ _ _ (s .fitting) (chosen .enum-told3 .given .1);
     }
@@ -84,7 +84,7 @@ move-medium-requires c κs =
     let chosen = c .before .before in
     let began = chosen .before .before .before .before .before .before .before .before .before in
     let s = began .pre .0 in
-    (s .suited .ready-to-move, (s .host-most, sized _ _ _ (s .fitting) (chosen .enum-told6 .given .1)))
+    (s .suited .ready-to-move, (s .host-some, (s .host-most, sized _ _ _ (s .fitting) (chosen .enum-told6 .given .1))))
 
 enum-told-7 : tie.Need-enum-told-7
 enum-told-7 c = search needs
@@ -95,7 +95,7 @@ exchange-medium-requires c κs =
     let chosen = c .before .before in
     let began = chosen .before .before .before .before .before .before .before .before .before in
     let s = began .pre .0 in
-    (s .suited .ready-to-move, (s .host-most, sized _ _ _ (s .fitting) (chosen .enum-told7 .given .1)))
+    (s .suited .ready-to-move, (s .host-some, (s .host-most, sized _ _ _ (s .fitting) (chosen .enum-told7 .given .1))))
 
 enum-told-8 : tie.Need-enum-told-8
 enum-told-8 c = search needs

@@ -96,7 +96,7 @@ impl Library {
         let elements = [EMPTY, EMPTY, EMPTY, VOLUME_1, EMPTY, VOLUME_2, EMPTY];
         let labels = [b"ABC123L1", b"ABC124L1", b"ABC125L1"];
         Library(TableBytes::labelled(
-            [&ranges.concat()[..], &[0; 2], &[0; 40]].concat(),
+            [&ranges.concat()[..], &[0; 2], &[0; 40], &[0, 2]].concat(),
             elements.concat(),
             labels.map(label).concat(),
             blank_label(),
@@ -186,8 +186,33 @@ impl Library {
         self.elements[8 * place..8 * place + 8].try_into().unwrap()
     }
 
+    /// The number of empty shelves stays true.
     pub fn set_element(&mut self, place: usize, bytes: [u8; 8]) {
         self.elements[8 * place..8 * place + 8].copy_from_slice(&bytes);
+        self.recount();
+    }
+
+    /// The number of empty shelves that the head shows.
+    pub fn empty_shelves(&self) -> u16 {
+        u16::from_be_bytes([self.head[58], self.head[59]])
+    }
+
+    pub fn show_empty_shelves(&mut self, number: u16) {
+        self.head[58..].copy_from_slice(&number.to_be_bytes());
+    }
+
+    /// The head shows how many elements of the storage range are empty: they lie behind those of lower addresses.
+    pub fn recount(&mut self) {
+        let ranges = self.head[..16].chunks(4);
+        let two = |high: u8, low: u8| usize::from(u16::from_be_bytes([high, low]));
+        let ranges = ranges.map(|r| (two(r[0], r[1]), two(r[2], r[3])));
+        let ranges: Vec<(usize, usize)> = ranges.collect();
+        let (first, shelves) = ranges[1];
+        let lower = ranges.iter().filter(|range| range.0 < first);
+        let behind = lower.map(|range| range.1).sum();
+        let records = self.elements.chunks_exact(8).skip(behind).take(shelves);
+        let empty = records.filter(|record| record[..2] == [0, 0]).count();
+        self.show_empty_shelves(empty as u16);
     }
 
     /// Holder and id only; volume, source and mark stay.

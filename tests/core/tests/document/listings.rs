@@ -187,6 +187,7 @@ fn the_largest_answer_is_26664_bytes() {
     let ranges = [[0, 1, 0, 1], [0, 9, 1, 0xFC], [0, 3, 0, 1], [0, 5, 0, 2]];
     library.head[..16].copy_from_slice(&ranges.concat());
     library.elements = vec![0; 8 * 512];
+    library.show_empty_shelves(508);
     let block = [0xB8, 0x10, 0, 0, 0xFF, 0xFF, 0, 0xFF, 0xFF, 0xFF, 0, 0];
     let short = library.with_buffer(1, &block, &[], 26_663);
     assert_eq!(short.reply, refused(5));

@@ -1,4 +1,4 @@
-//! Document 01, and requests One and Two of document 02, against the reference and the built library. Every expected value is written out by hand.
+//! Document 01, and requests One, Two and Four of document 02, against the reference and the built library. Every expected value is written out by hand.
 
 mod fixture;
 
@@ -8,6 +8,7 @@ mod house_numbers;
 mod listings;
 mod mode_sense;
 mod moves;
+mod panel;
 mod reservations;
 mod sense;
 mod shelves;

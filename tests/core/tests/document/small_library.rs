@@ -9,6 +9,8 @@ struct Case {
     reply: reference::Reply,
     sense: [u8; 3],
     after: [[u8; 8]; 7],
+    /// How many of the four shelves are then empty.
+    empty_shelves: u16,
 }
 
 const NO_SENSE: [u8; 3] = [0, 0, 0];
@@ -27,6 +29,7 @@ fn unsuccessful(name: &'static str, block: [u8; 12], sense: [u8; 3]) -> Case {
         reply: CHECK_CONDITION,
         sense,
         after: AS_LOADED,
+        empty_shelves: 2,
     }
 }
 
@@ -36,6 +39,7 @@ fn run(case: &Case) {
     let mut expected = library.clone();
     expected.elements = case.after.concat();
     expected.head[18..21].copy_from_slice(&case.sense);
+    expected.show_empty_shelves(case.empty_shelves);
     let answered = library.with_buffer(1, &case.block, &[], 48);
     assert_eq!(answered.reply, case.reply, "{}", case.name);
     assert_eq!(answered.answer, [UNTOUCHED; 48], "{}", case.name);
@@ -52,6 +56,7 @@ fn p1_moves_volume_1_into_the_drive() {
         reply: GOOD,
         sense: NO_SENSE,
         after: [EMPTY, EMPTY, drive, EMPTY, EMPTY, VOLUME_2, EMPTY],
+        empty_shelves: 3,
     });
 }
 
@@ -81,6 +86,7 @@ fn p7_swaps_two_volumes() {
         reply: GOOD,
         sense: NO_SENSE,
         after: [EMPTY, EMPTY, EMPTY, at_1000, EMPTY, at_1002, EMPTY],
+        empty_shelves: 2,
     });
 }
 
@@ -111,6 +117,7 @@ fn p11_an_element_of_another_host_is_a_conflict() {
         reply: RESERVATION_CONFLICT,
         sense: NO_SENSE,
         after: places,
+        empty_shelves: 2,
     });
 }
 

@@ -36,6 +36,7 @@ fn library_of(ranges: [(u16, u16); 4]) -> Library {
         library.head[4 * place + 2..4 * place + 4].copy_from_slice(&count.to_be_bytes());
     }
     library.elements = vec![0; 8 * count];
+    library.recount();
     library
 }
 
@@ -260,6 +261,47 @@ fn attention_is_none_or_one_of_two() {
                 l.set_host_record(host, [0, 0, 0, codes[0], codes[1]]);
             });
         }
+    }
+}
+
+#[test]
+fn the_number_of_empty_shelves_is_the_true_one() {
+    // Two of the small library's four shelves are empty.
+    expect_sound(|l| l.show_empty_shelves(2));
+    for number in [0, 1, 3, 4, 0x0102, 0x0200, 0x8002, 0xFFFF] {
+        expect_broken(Clause::EmptyShelves, |l| l.show_empty_shelves(number));
+    }
+    // A shelf that is filled without a word about it; drive and mail slot are no shelves.
+    expect_broken(Clause::EmptyShelves, |l| l.elements[8 * AT_1003 + 1] = 3);
+    for place in [AT_0010, AT_0100] {
+        expect_sound(|l| l.elements[8 * place + 1] = 3);
+    }
+}
+
+#[test]
+fn without_shelves_the_number_is_0() {
+    let mut library = library_of([(1, 1), (0, 0), (2, 1), (0, 0)]);
+    library.show_empty_shelves(0);
+    expect(&library, Ok(()));
+    library.show_empty_shelves(1);
+    expect(&library, Err(Clause::EmptyShelves));
+}
+
+#[test]
+fn both_bytes_of_the_number_are_judged() {
+    let mut library = library_of([(1, 1), (2, 300), (0, 0), (0, 0)]);
+    // 300 is 012Ch.
+    library.head[58..].copy_from_slice(&[0x01, 0x2C]);
+    expect(&library, Ok(()));
+    for wrong in [
+        [0x00, 0x2C],
+        [0x02, 0x2C],
+        [0x01, 0x2B],
+        [0x01, 0x2D],
+        [0x2C, 0x01],
+    ] {
+        library.head[58..].copy_from_slice(&wrong);
+        expect(&library, Err(Clause::EmptyShelves));
     }
 }
 

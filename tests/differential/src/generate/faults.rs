@@ -5,13 +5,16 @@ use reference::Clause;
 
 use super::sound;
 use crate::random::Random;
-use crate::scene::Scene;
+use crate::scene::{Scene, HEAD_LENGTH};
 
 /// Sound tables with this clause broken, and no clause that is judged before it.
 pub fn broken_scene(random: &mut Random, clause: Clause) -> Scene {
     loop {
         let mut scene = suited_scene(random, clause);
         if break_clause(random, &mut scene, clause).is_some() {
+            if clause != Clause::EmptyShelves {
+                scene.recount();
+            }
             return scene;
         }
     }
@@ -23,8 +26,11 @@ pub fn doubly_broken_scene(random: &mut Random) -> Scene {
     let second = random.pick(&Clause::ALL);
     let mut scene = broken_scene(random, first.max(second));
     let lengths_are_kept = scene.tables.elements.len() == 8 * scene.places.len();
-    if first != second && lengths_are_kept && scene.tables.head.len() == 58 {
+    if first != second && lengths_are_kept && scene.tables.head.len() == HEAD_LENGTH {
         break_clause(random, &mut scene, first.min(second));
+        if first.max(second) != Clause::EmptyShelves {
+            scene.recount();
+        }
     }
     scene
 }
@@ -73,6 +79,7 @@ fn break_clause(random: &mut Random, scene: &mut Scene, clause: Clause) -> Optio
         | Clause::IdWithoutHolder
         | Clause::UnitHolderNumber
         | Clause::UnitHeldAlone => break_holders(random, scene, clause)?,
+        Clause::EmptyShelves => break_number(random, scene),
         Clause::SenseKey | Clause::CodesWithoutKey | Clause::AttentionCodes => {
             break_host(random, scene, clause);
         }
@@ -268,6 +275,23 @@ fn break_mark(random: &mut Random, scene: &mut Scene, place: usize) {
         false => random.byte_between(least, 255),
     };
     scene.set_mark(place, mark);
+}
+
+/// Wrong by one either way, in one of its two bytes, with the two bytes changed, or anything.
+fn break_number(random: &mut Random, scene: &mut Scene) {
+    let right = scene.empty_shelves();
+    let mut wrong = right;
+    while wrong == right {
+        wrong = match random.below(6) {
+            0 => right.wrapping_add(1),
+            1 => right.wrapping_sub(1),
+            2 => right ^ u16::from(random.byte()),
+            3 => right ^ u16::from(random.byte()) << 8,
+            4 => right.swap_bytes(),
+            _ => random.below(65_536) as u16,
+        };
+    }
+    scene.show_empty_shelves(wrong);
 }
 
 fn break_holders(random: &mut Random, scene: &mut Scene, clause: Clause) -> Option<()> {

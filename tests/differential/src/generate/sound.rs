@@ -4,7 +4,7 @@ use reference::library::Kind;
 use reference::TableBytes;
 
 use crate::random::Random;
-use crate::scene::{Place, Scene};
+use crate::scene::{Place, Scene, HEAD_LENGTH};
 
 const LAST_ADDRESS: usize = 65_535;
 const MOST_TRANSPORTS: usize = 127;
@@ -70,6 +70,7 @@ fn scene_of(random: &mut Random, counts: Counts, likelihood: Likelihood) -> Scen
     let mut scene = empty_scene(counts, firsts);
     scene.tables.blank = random.bytes(36);
     load(random, &mut scene);
+    scene.recount();
     reserve(random, &mut scene, likelihood);
     tell(random, &mut scene, likelihood);
     scene
@@ -156,7 +157,7 @@ fn empty_scene(counts: Counts, firsts: [usize; 4]) -> Scene {
             }),
         );
     }
-    head.resize(58, 0);
+    head.resize(HEAD_LENGTH, 0);
     places.sort_by_key(|place| place.address);
     Scene {
         tables: TableBytes {

@@ -5,6 +5,7 @@ mod cuts;
 mod events;
 mod libraries;
 mod modes;
+mod panel;
 mod reserving;
 mod shelves;
 mod unsound;
@@ -24,7 +25,7 @@ macro_rules! named {
     ($($family:ident::$name:ident),* $(,)?) => { [$((stringify!($name), $family::$name as Scenario)),*] };
 }
 
-const SCENARIOS: [(&str, Scenario); 29] = named![
+const SCENARIOS: [(&str, Scenario); 31] = named![
     libraries::small_library,
     libraries::plausible_calls,
     libraries::history,
@@ -33,6 +34,8 @@ const SCENARIOS: [(&str, Scenario); 29] = named![
     shelves::moves_of_each_kind,
     shelves::exchanges_of_each_kind,
     shelves::sources_of_each_kind,
+    panel::past_255_and_back,
+    panel::wrong_numbers,
     blocks::early_steps,
     unsound::each_clause_broken,
     unsound::pairs_of_clauses_broken,

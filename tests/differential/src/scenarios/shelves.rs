@@ -15,6 +15,7 @@ fn empty_scene(random: &mut Random) -> Scene {
     let counts = [1, 3, 3, 3].map(|least| least + random.below(2));
     let mut scene = sound::quiet_scene_with(random, counts);
     scene.tables.elements.fill(0);
+    scene.recount();
     scene.tables.tags = random.bytes(36 * 8);
     scene
 }
@@ -36,6 +37,7 @@ fn put(random: &mut Random, scene: &mut Scene, place: usize, has_source: bool) {
     } else if scene.places[place].kind == Kind::ImportExport {
         scene.set_mark(place, random.byte_between(0, 1));
     }
+    scene.recount();
 }
 
 fn block(first: u8, scene: &Scene, places: [usize; 3]) -> Vec<u8> {

@@ -30,7 +30,7 @@ pub(super) fn pairs_of_clauses_broken(harness: &mut Harness, random: &mut Random
     }
 }
 
-/// Sound or not, depending on the bit.
+/// Sound or not, depending on the bit; the number of empty shelves is counted again for half of them.
 pub(super) fn one_bit_of_the_tables_flipped(harness: &mut Harness, random: &mut Random, _: usize) {
     for _ in 0..60 {
         let mut scene = sound::scene(random);
@@ -41,6 +41,9 @@ pub(super) fn one_bit_of_the_tables_flipped(harness: &mut Harness, random: &mut 
         };
         let at = random.below(table.len());
         table[at] ^= 1 << random.below(8);
+        if random.percent(50) {
+            scene.recount();
+        }
         harness.call(&mut scene.tables, &call);
     }
 }

@@ -21,12 +21,12 @@ pub enum Second {
     IsAnother,
 }
 
-fn two(bytes: &[u8], at: usize) -> u16 {
+pub(super) fn two(bytes: &[u8], at: usize) -> u16 {
     u16::from_be_bytes([bytes[at], bytes[at + 1]])
 }
 
 /// The kind of an element by its address, and how many elements come before it.
-fn find(tables: &TableBytes, address: u16) -> Option<(Kind, usize)> {
+pub(super) fn find(tables: &TableBytes, address: u16) -> Option<(Kind, usize)> {
     let range = |at: usize| {
         let first = usize::from(two(&tables.head, 4 * at));
         first..first + usize::from(two(&tables.head, 4 * at + 2))

@@ -1,18 +1,18 @@
--- `sound::element::run_sound`: at the loop's head the places before p are passed, and their volumes marked. Assumes nothing.
+-- `sound::element::run_sound`: at the loop's head the places before p are passed, their volumes marked, the empty ones counted. Assumes nothing.
 use Prim.Native.Nat.{_-_}
 use mathlib.Core.Logic.{⊎-elim}
 use native.Mathlib.Omega.{arith}
 use borrow.Author.Needs.{needs}
 use Rattle.tables.specs.Ranges.{laid}
-use Rattle.sound.proofs.Pass.{Passing, pass-begins, pass-unfit, pass-twice, pass-new, pass-empty, pass-all, volume-small, never}
+use Rattle.sound.proofs.Pass.{Passing, pass-begins, pass-unfit, pass-twice, pass-new, pass-empty, pass-all, volume-small}
 use Rattle.sound.proofs.element.run_sound.Statement.{statement}
 use Rattle.sound.proofs.element.run_sound.Tie as tie
 
 abbrev Inv-loop : tie.InvT-loop
-Inv-loop runs unit top kind first end elements seen₀ last p₀ seen p = Passing unit top (laid runs) elements kind first end seen₀ seen p
+Inv-loop runs unit top kind first end elements seen₀ last empty₀ p₀ seen empty p = Passing unit top (laid runs) elements kind first end seen₀ seen empty p
 
 abbrev μ-loop : tie.MeasureT-loop
-μ-loop runs unit top kind first end elements seen₀ last p₀ seen p = end - p
+μ-loop runs unit top kind first end elements seen₀ last empty₀ p₀ seen empty p = end - p
 
 loop-holds : tie.Need-loop-holds Inv-loop μ-loop
 loop-holds c = pass-begins _ _ _ _ _ _ _ _ (c .before .before .before .pre)
@@ -32,7 +32,7 @@ returns : tie.Need-returns Inv-loop μ-loop
 returns c =
     let fit = c .before in
     let turn = fit .before .before in
-    (pass-unfit _ _ _ _ _ _ _ _ (turn .before .before .before .before .pre) _ _ (turn .loop .inv) (fit .before .loop-test .taken) _ (turn .before .last-of .ensures) _ (fit .fits2 .ensures) (c .if1 .taken), never)
+    pass-unfit _ _ _ _ _ _ _ _ (turn .before .before .before .before .pre) _ _ _ (turn .loop .inv) (fit .before .loop-test .taken) _ (turn .before .last-of .ensures) _ (fit .fits2 .ensures) (c .if1 .taken)
 
 volume-requires : tie.Need-volume-requires Inv-loop μ-loop
 volume-requires c κs =
@@ -48,7 +48,7 @@ slice-read-if3 c =
     let fit = read .before .before in
     let turn = fit .before .before in
     let start = turn .before .before .before .before in
-    volume-small _ _ _ _ _ _ _ _ (start .pre) _ _ (turn .loop .inv) (fit .before .loop-test .taken) _ (turn .before .last-of .ensures) _ (fit .fits2 .ensures) (read .before .if1 .left) _ (read .volume .ensures)
+    volume-small _ _ _ _ _ _ _ _ (start .pre) _ _ _ (turn .loop .inv) (fit .before .loop-test .taken) _ (turn .before .last-of .ensures) _ (fit .fits2 .ensures) (read .before .if1 .left) _ (read .volume .ensures)
 
 same-length-2 : tie.Need-same-length-2 Inv-loop μ-loop
 same-length-2 c = let fit = c .before .before .before .before .before in fit .before .before .loop .inv .as-long
@@ -60,7 +60,7 @@ returns-2 c =
     let fit = read .before .before in
     let turn = fit .before .before in
     let start = turn .before .before .before .before in
-    (pass-twice _ _ _ _ _ _ _ _ (start .pre) _ _ (turn .loop .inv) (fit .before .loop-test .taken) _ (turn .before .last-of .ensures) _ (fit .fits2 .ensures) (read .before .if1 .left) _ (read .volume .ensures) (some .if2 .taken) (c .if3 .taken), never)
+    pass-twice _ _ _ _ _ _ _ _ (start .pre) _ _ _ (turn .loop .inv) (fit .before .loop-test .taken) _ (turn .before .last-of .ensures) _ (fit .fits2 .ensures) (read .before .if1 .left) _ (read .volume .ensures) (some .if2 .taken) (c .if3 .taken)
 
 slice-write-seen : tie.Need-slice-write-seen Inv-loop μ-loop
 slice-write-seen c =
@@ -68,7 +68,10 @@ slice-write-seen c =
     let fit = read .before .before in
     let turn = fit .before .before in
     let start = turn .before .before .before .before in
-    volume-small _ _ _ _ _ _ _ _ (start .pre) _ _ (turn .loop .inv) (fit .before .loop-test .taken) _ (turn .before .last-of .ensures) _ (fit .fits2 .ensures) (read .before .if1 .left) _ (read .volume .ensures)
+    volume-small _ _ _ _ _ _ _ _ (start .pre) _ _ _ (turn .loop .inv) (fit .before .loop-test .taken) _ (turn .before .last-of .ensures) _ (fit .fits2 .ensures) (read .before .if1 .left) _ (read .volume .ensures)
+
+add-empty : tie.Need-add-empty Inv-loop μ-loop
+add-empty c = search needs
 
 add-p : tie.Need-add-p Inv-loop μ-loop
 add-p c = search needs
@@ -83,15 +86,15 @@ loop-again c =
     let turn = fit .before .before in
     let start = turn .before .before .before .before in
     ⊎-elim
-    (λ w. rw (w .3) (pass-new _ _ _ _ _ _ _ _ (start .pre) _ _ (turn .loop .inv) (fit .before .loop-test .taken) _ (turn .before .last-of .ensures) _ (fit .fits2 .ensures) (read .before .if1 .left) _ (read .volume .ensures) (w .0 .taken) (w .2 .left)))
-    (λ w. rw (w .1) (pass-empty _ _ _ _ _ _ _ _ (start .pre) _ _ (turn .loop .inv) (fit .before .loop-test .taken) _ (turn .before .last-of .ensures) _ (fit .fits2 .ensures) (read .before .if1 .left) _ (read .volume .ensures) (w .0 .left)))
+    (λ w. rw (w .3, w .4) (pass-new _ _ _ _ _ _ _ _ (start .pre) _ _ _ (turn .loop .inv) (fit .before .loop-test .taken) _ (turn .before .last-of .ensures) _ (fit .fits2 .ensures) (read .before .if1 .left) _ (read .volume .ensures) (w .0 .taken) (w .2 .left)))
+    (λ w. rw (w .1, w .2) (pass-empty _ _ _ _ _ _ _ _ (start .pre) _ _ _ (turn .loop .inv) (fit .before .loop-test .taken) _ (turn .before .last-of .ensures) _ (fit .fits2 .ensures) (read .before .if1 .left) _ (read .volume .ensures) (w .0 .left)))
     (c .if2 .came)
 
 same-length-3 : tie.Need-same-length-3 Inv-loop μ-loop
 same-length-3 c = c .before .loop .inv .as-long
 
 returns-3 : tie.Need-returns-3 Inv-loop μ-loop
-returns-3 c = let all = pass-all _ _ _ _ _ _ _ _ (c .before .before .before .before .before .pre) _ _ (c .before .loop .inv) (c .loop-test .left) in (all .0, λ e. all .1)
+returns-3 c = pass-all _ _ _ _ _ _ _ _ (c .before .before .before .before .before .pre) _ _ _ (c .before .loop .inv) (c .loop-test .left)
 
 pub run-sound-spec : {M : Type 1} → statement M
 run-sound-spec =
@@ -110,6 +113,7 @@ run-sound-spec =
     same-length-2
     returns-2
     slice-write-seen
+    add-empty
     add-p
     loop-less
     loop-again
