@@ -124,11 +124,11 @@ swapped elements block p q r v w =
 abbrev pub shelf : ℕ → ℕ
 shelf kind = when (eqb kind storage) 1 0
 
--- the empty shelves are n; one more where a shelf is left, one fewer where one is filled
+-- of n empty shelves one more where one was left, one fewer where one was filled
 abbrev pub Tally : List Slot → List ℕ → ℕ → Spot → Spot → Type 0
 Tally ss elements n left filled = emptyShelves ss elements + shelf (filled .kind) ≡ n + shelf (left .kind)
 
--- carried out, an answer leaves so many of n: the first destination of an exchange is full before and after
+-- once an answer is carried out; the first destination of an exchange is full before and after
 abbrev pub Tallies : List Slot → List ℕ → List ℕ → ℕ → Ruling → Type 0
 Tallies ss elements block n (Move p q v) = Tally ss (carried elements block p q v) n p q
 Tallies ss elements block n (Exchange p q r v w) = Tally ss (swapped elements block p q r v w) n p r

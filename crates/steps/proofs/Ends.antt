@@ -8,7 +8,7 @@ use borrow.Author.Tests.{ne-eqb}
 use Rattle.rules.specs.Choice.{when}
 use Rattle.rules.specs.Tables.{Tables, attention}
 use Rattle.rules.specs.Order.{Verdict, fits, afterAttention, conflict, refused, InvalidField}
-use Rattle.rules.specs.Command.{act, admitted, stepsOf}
+use Rattle.rules.specs.Command.{act, stepsOf}
 use Rattle.rules.proofs.Untouched.{conflict-fits, refused-fits}
 use Rattle.operation.specs.declared.Operation.{Operation}
 use Rattle.operation.specs.Meaning.{meaning}

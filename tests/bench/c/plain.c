@@ -107,14 +107,17 @@ static bool elements_sound(const library *l)
     unsigned empty_shelves = 0;
     memset(seen, 0, l->volumes + 1);
     for (unsigned r = 0; r < l->filled; r++) {
-        const unsigned kind = l->ranges[r].kind, most = kind == TRANSPORT ? 0 : l->volumes, counted = kind == STORAGE;
+        const unsigned kind = l->ranges[r].kind, most = kind == TRANSPORT ? 0 : l->volumes;
+        unsigned full = 0; /* counted where a volume is marked: a sum over all elements took a fifth longer */
         for (const uint8_t *end = e + SMC_ELEMENT_SIZE * l->ranges[r].count; e < end; e += SMC_ELEMENT_SIZE) {
-            unsigned volume = get16(e + VOLUME), source = get16(e + SOURCE);
-            empty_shelves += counted & !volume;
+            const unsigned volume = get16(e + VOLUME), source = get16(e + SOURCE);
             if (volume > most || e[ZERO])
                 return false;
-            if (volume && seen[volume]++)
-                return false;
+            if (volume) {
+                if (seen[volume]++)
+                    return false;
+                full++;
+            }
             if (source && (!volume || !is_shelf(l, source)))
                 return false;
             if (e[MARK] && (e[MARK] != 1 || kind != PORT || !volume))
@@ -122,6 +125,8 @@ static bool elements_sound(const library *l)
             if (e[HOLDER] ? e[HOLDER] > HOSTS || (unit && e[HOLDER] != unit) : e[ID])
                 return false;
         }
+        if (kind == STORAGE)
+            empty_shelves = l->ranges[r].count - full;
     }
     return empty_shelves == get16(l->head + FREE);
 }
