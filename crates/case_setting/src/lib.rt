@@ -87,19 +87,14 @@ fn element(what: u8, address: u32, value: u32, state: State, room: &mut [u8]) ->
 
 // How many empty shelves are at an address: one, or none.
 fn empty_shelves(address: u32, head: &[u8], elements: &[u8]) -> u16 {
-    if 0xFFFF < address {
-        return 0;
-    }
     if head.len() < layout::HEAD_SIZE {
         return 0;
     }
-    let runs = tables::runs(head);
-    if tables::kind_of(runs, address as u16) != layout::STORAGE {
+    let spot = tables::spot_of(tables::runs(head), address);
+    if spot.kind != layout::STORAGE {
         return 0;
     }
-    let Found::At(place) = tables::find(runs, address, Types::Any) else {
-        return 0;
-    };
+    let place = spot.place;
     if elements.len() / layout::ELEMENT_SIZE <= place {
         return 0;
     }

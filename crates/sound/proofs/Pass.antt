@@ -7,9 +7,9 @@ use mathlib.Core.Path.{_≡_, refl, sym, ap, _∙_}
 use mathlib.Core.Logic.{_≢_}
 use mathlib.Core.Bool.{Bool, true, false, not}
 use mathlib.Core.List.{List, [], _∷_, map}
-use lib.ListN.{length, getD, set, drop, length-set}
-use lib.Dec.{eqb, leb}
-use borrow.Author.Tests.{not-true, not-false, lt-ltb, le-ltb, leb-true, leb-false, le-leb, lt-leb, eqb-true, eqb-false, eq-eqb, ne-eqb}
+use lib.ListN.{length, getD, drop}
+use lib.Dec.{eqb, leb, ltb}
+use borrow.Author.Tests.{not-true, not-false, lt-ltb, le-ltb, ltb-true, ltb-false, leb-true, leb-false, le-leb, lt-leb, eqb-true, eqb-false, eq-eqb, ne-eqb}
 use Rattle.rules.specs.Ranges.{total}
 use Rattle.rules.specs.Choice.{when, allOf, below}
 use Rattle.rules.specs.Bytes.{byte, word}
@@ -24,9 +24,10 @@ use Rattle.tables.proofs.Sort.{none, meant-from, meant-end}
 use Rattle.tables.proofs.Roster.{walk, laid-at, laid-length}
 use Rattle.sound.specs.declared.element.Pass.{Pass}
 use Rattle.sound.specs.declared.element.Pass.the-variants.{Sound, Broken}
-use Rattle.sound.specs.Checks.{lastOf, endingSound, fitBy, soundAt, soundTo, emptyFrom, passSound, Marks, Run}
+use Rattle.sound.specs.Checks.{lastOf, endingSound, Shelved, sourceIn, fitBy, passesAt, passesFrom, soundAt, soundTo, emptyFrom, passSound, marked, marking, Marks, Run}
 use Rattle.sound.proofs.Empty.{counts-most, empty-most, empty-next, shelves-of, tells-broken, tells-sound}
 use Rattle.sound.proofs.Holding.{hold-none}
+use Rattle.sound.proofs.Bits.{marking-length}
 use Rattle.sound.proofs.Once.{stands-twice, stands-once, stands-none, mark-new, mark-none}
 
 -- ---- several tests at each number below n are each test at all of them
@@ -111,8 +112,8 @@ module _ (es : List ℕ) (p : ℕ) where
 
   -- the code's test b, of what it read there
   module _ (b : Bool) where
-    pub source-by : (ss : List Slot) (v s : ℕ) → v ≡ volume es p → s ≡ source es p → b ≡ sourceSound ss v s → b ≡ sourceSound ss (volume es p) (source es p)
-    source-by ss v s e f w = w ∙ rw (e, f)
+    pub source-by : (shelves : Range) (v s : ℕ) → v ≡ volume es p → s ≡ source es p → b ≡ sourceIn shelves v s → b ≡ sourceIn shelves (volume es p) (source es p)
+    source-by shelves v s e f w = w ∙ rw (e, f)
 
     pub mark-by : (kind v m : ℕ) → m ≡ mark es p → b ≡ markSound kind v m → b ≡ markSound kind v (mark es p)
     mark-by kind v m e w = w ∙ rw e
@@ -131,130 +132,174 @@ module _ (es : List ℕ) (p : ℕ) where
       let z : byte es (elementAt p + 5) ≡ 0 = ap (byte es) (sym i) ∙ both .1 in
       rw z (hold-none u (byte es (elementAt p + 4)) 0 (both .0))
 
--- ---- the places of a run: those before p are passed, and the empty ones among them counted
+-- ---- the places of a run: those before p are passed
 
 -- what was not sound tells nothing of the marks
 pub never : {P : Type 0} → false ≡ true → P
 never e = absurd (let y : _≡_ {A = ℕ} 0 1 = cc in let w : ⊥ = omega arith in w)
 
-module _ (u top : ℕ) (ss : List Slot) (es : List ℕ) (kind first end : ℕ) where
+module _ (u top : ℕ) (shelves : Range) (es : List ℕ) (kind first end : ℕ) where
+  -- the place that lies i behind the first
+  abbrev passes : ℕ → Bool
+  passes i = passesAt u (lastOf top kind) shelves es kind (first + i)
+
   pub record Passing (seen₀ seen : List ℕ) (empty p : ℕ) : Type 0 where
     pub begun : first ≤ p
     pub far : p ≤ end
     pub few : empty ≤ p
     pub counted : empty + emptyFrom es p (end - p) ≡ emptyFrom es first (end - first)
-    pub so-far : soundTo u top ss es p ≡ true
+    pub so-far : below (p - first) passes ≡ true
     pub as-long : length seen ≡ length seen₀
-    pub marked : Marks es p seen
+    pub marks : Marks es p seen
 
   -- what the code tells where it stops, with the marks that it leaves
   abbrev Tells : List ℕ → Pass → Type 0
   Tells seen r =
-      (r ≡ when (soundTo u top ss es end) (Sound (emptyFrom es first (end - first))) Broken)
-      × (soundTo u top ss es end ≡ true → Marks es end seen)
+      (r ≡ when (passesFrom u (lastOf top kind) shelves es kind first (end - first)) (Sound (emptyFrom es first (end - first))) Broken)
+      × (passesFrom u (lastOf top kind) shelves es kind first (end - first) ≡ true → Marks es end seen)
 
-  module _ (seen₀ : List ℕ) (run : Run u top ss es kind first end seen₀) where
+  module _ (seen₀ : List ℕ) (run : Run top es first end seen₀) where
     pub pass-begins : Passing seen₀ seen₀ 0 first
+    unfolding below
     pass-begins =
+        let z : first - first ≡ 0 = omega arith in
         record {
           begun = omega arith;
           far = run .in-order;
           few = omega arith;
           counted = zero-add (emptyFrom es first (end - first));
-          so-far = run .so-far;
+          so-far = rw z;
           as-long = refl;
-          marked = run .marked;
+          marks = run .before;
         }
 
     module _ (seen : List ℕ) (empty p : ℕ) (at : Passing seen₀ seen empty p) where
       -- the code's test b of the element by itself
-      module _ (h : p < end) (last : ℕ) (limit : last ≡ lastOf top kind) (b : Bool) (is : b ≡ fitBy u last ss es kind p) where
-        whole : soundAt u top ss es p ≡ when b (once es p) false
-        unfolding soundAt stockSound fitBy endingSound allOf when
-        whole =
-            rw (is, run .one-type p (at .begun) h, limit, last-is (volume es p) top kind)
-            (go (leb (volume es p) top) (transportEmpty kind (volume es p)) (sourceSound ss (volume es p) (source es p)) (markSound kind (volume es p) (mark es p))
-            (holdSound u (holder es p) (id es p)) (eqb (zeroByte es p) 0))
-          where
-            go : (a b s m h z : Bool)
-                → allOf (allOf (a ∷ b ∷ s ∷ m ∷ []) ∷ h ∷ z ∷ once es p ∷ [])
-                ≡ when (allOf (when a b false ∷ s ∷ allOf (m ∷ z ∷ []) ∷ h ∷ [])) (once es p) false
-            go true true true true true true = same (once es p)
-            go true true true true true false = refl
-            go true true true true false true = refl
-            go true true true true false false = refl
-            go true true true false h z = refl
-            go true true false m h z = refl
-            go true false s m h z = refl
-            go false b s m h z = refl
+      module _ (h : p < end) (last : ℕ) (limit : last ≡ lastOf top kind) (b : Bool) (is : b ≡ fitBy u last shelves es kind p) where
+        here : passes (p - first) ≡ allOf (b ∷ once es p ∷ [])
+        unfolding passesAt
+        here =
+            let e : first + (p - first) ≡ p = omega (arith, at .begun) in
+            rw (e, is, limit)
 
-        stops : soundAt u top ss es p ≡ false → Tells seen Broken
-        unfolding soundTo when
+        stops : passes (p - first) ≡ false → Tells seen Broken
+        unfolding passesFrom when
         stops e =
-            let f : soundTo u top ss es end ≡ false = below-fails end (soundAt u top ss es) p h e in
+            let f : passesFrom u (lastOf top kind) shelves es kind first (end - first) ≡ false = below-fails (end - first) passes (p - first) (omega (arith, at .begun)) e in
             (rw f, λ t. never (sym f ∙ t))
 
-        goes : (s : List ℕ) (n : ℕ) → soundAt u top ss es p ≡ true → length s ≡ length seen → Marks es (p + 1) s
+        goes : (s : List ℕ) (n : ℕ) → passes (p - first) ≡ true → length s ≡ length seen → Marks es (p + 1) s
             → n ≡ empty + when (eqb (volume es p) 0) 1 0 → Passing seen₀ s n (p + 1)
-        unfolding soundTo when
+        unfolding when
         goes s n e l m c =
+            let i : p + 1 - first ≡ p - first + 1 = omega (arith, at .begun) in
             record {
               begun = omega (arith, at .begun);
               far = omega arith;
               few = omega (arith, at .few, counts-most (eqb (volume es p) 0) 1);
               counted = omega (arith, at .counted, empty-next es p end h);
-              so-far = below-step p (soundAt u top ss es) ∙ rw (e, at .so-far);
+              so-far = rw i (below-step (p - first) passes ∙ rw (e, at .so-far));
               as-long = l ∙ at .as-long;
-              marked = m;
+              marks = m;
             }
 
         pub pass-unfit : not b ≡ true → Tells seen Broken
-        unfolding when
-        pass-unfit t = stops (whole ∙ rw (not-true b t))
+        unfolding allOf when
+        pass-unfit t = stops (here ∙ rw (not-true b t))
 
         -- it fits, and its volume is v
         module _ (t : not b ≡ false) (v : ℕ) (reads : v ≡ volume es p) where
-          left : soundAt u top ss es p ≡ once es p
-          unfolding when
-          left = whole ∙ rw (not-false b t)
+          left : passes (p - first) ≡ once es p
+          unfolding allOf when
+          left = here ∙ rw (not-false b t) (same (once es p))
 
-          pub volume-small : v < length seen
+          pub volume-small : v < 64 * length seen
           unfolding fitBy
           volume-small =
               let l : volume es p ≤ last = leb-true (volume es p) last (all-first _ _ (sym is ∙ not-false b t)) in
               omega (arith, run .numbers, at .as-long, last-most top kind)
 
-          module _ (some : v ≢ 0) where
-            pub pass-twice : getD seen v 0 ≢ 0 → Tells seen Broken
-            pass-twice d = stops (left ∙ stands-twice es seen p v (at .marked) reads some volume-small d)
+          -- the code's test m of its mark
+          module _ (some : v ≢ 0) (m : Bool) (test : m ≡ marked seen v) where
+            pub pass-twice : m ≡ true → Tells seen Broken
+            pass-twice d = stops (left ∙ stands-twice es seen p v (at .marks) reads some volume-small m test d)
 
-            pub pass-new : getD seen v 0 ≡ 0 → Passing seen₀ (set seen v 1) empty (p + 1)
+            pub pass-new : m ≡ false → Passing seen₀ (marking seen v) empty (p + 1)
             unfolding when
             pass-new d =
-                goes (set seen v 1) empty
-                (left ∙ stands-once es seen p v (at .marked) reads some volume-small d)
-                (length-set seen v 1)
-                (mark-new es seen p v (at .marked) reads some volume-small)
+                goes (marking seen v) empty
+                (left ∙ stands-once es seen p v (at .marks) reads some volume-small m test d)
+                (marking-length seen v)
+                (mark-new es seen p v (at .marks) reads some volume-small)
                 (rw (← reads, ne-eqb v 0 some) (omega arith))
 
           pub pass-empty : v ≡ 0 → Passing seen₀ seen (empty + 1) (p + 1)
           unfolding when
           pass-empty e =
               goes seen (empty + 1)
-              (left ∙ stands-none es seen p v (at .marked) reads e)
+              (left ∙ stands-none es seen p v (at .marks) reads e)
               refl
-              (mark-none es seen p v (at .marked) reads e)
+              (mark-none es seen p v (at .marks) reads e)
               (rw (← reads, eq-eqb v 0 e))
 
       pub pass-all : end ≤ p → Tells seen (Sound empty)
-      unfolding when emptyFrom
+      unfolding when emptyFrom passesFrom
       pass-all h =
           let e : p ≡ end = omega (arith, at .far) in
-          let f : soundTo u top ss es end ≡ true = rw (← e) (at .so-far) in
+          let f : passesFrom u (lastOf top kind) shelves es kind first (end - first) ≡ true = rw (← e) (at .so-far) in
           let z : end - p ≡ 0 = omega arith in
           let c = rw z at (at .counted) in
           let n : empty ≡ emptyFrom es first (end - first) = omega arith in
-          (rw (f, n), λ t. rw (← e) (at .marked))
+          (rw (f, n), λ t. rw (← e) (at .marks))
+
+-- ---- a run of one type: its places pass where they are sound
+
+-- a storage address is one of the range that has the shelves
+source-is : (ss : List Slot) (shelves : Range) → Shelved ss shelves → (v s : ℕ) → sourceSound ss v s ≡ sourceIn shelves v s
+unfolding sourceSound sourceIn
+source-is ss shelves has v s = rw (has s)
+
+module _ (u top : ℕ) (ss : List Slot) (shelves : Range) (has : Shelved ss shelves) (es : List ℕ) (kind : ℕ) where
+  whole : (p : ℕ) → kindAt ss p ≡ kind → soundAt u top ss es p ≡ passesAt u (lastOf top kind) shelves es kind p
+  unfolding soundAt stockSound passesAt fitBy endingSound allOf when
+  whole p e =
+      rw (e, last-is (volume es p) top kind, source-is ss shelves has (volume es p) (source es p))
+      (go (leb (volume es p) top) (transportEmpty kind (volume es p)) (sourceIn shelves (volume es p) (source es p)) (markSound kind (volume es p) (mark es p))
+      (holdSound u (holder es p) (id es p)) (eqb (zeroByte es p) 0) (once es p))
+    where
+      go : (a b s m h z o : Bool)
+          → allOf (allOf (a ∷ b ∷ s ∷ m ∷ []) ∷ h ∷ z ∷ o ∷ [])
+          ≡ allOf (allOf (when a b false ∷ s ∷ allOf (m ∷ z ∷ []) ∷ h ∷ []) ∷ o ∷ [])
+      go true true true true true true o = refl
+      go true true true true true false o = refl
+      go true true true true false true o = refl
+      go true true true true false false o = refl
+      go true true true false h z o = refl
+      go true true false m h z o = refl
+      go true false s m h z o = refl
+      go false b s m h z o = refl
+
+  module _ (first n : ℕ) (one-type : (p : ℕ) → first ≤ p → p < first + n → kindAt ss p ≡ kind) where
+    at-place : (i : ℕ) → i < n → soundAt u top ss es (first + i) ≡ passesAt u (lastOf top kind) shelves es kind (first + i)
+    at-place i h = whole (first + i) (one-type (first + i) (omega arith) (omega arith))
+
+    -- those before the run are sound: so are those before its end
+    pub run-on : soundTo u top ss es first ≡ true → passesFrom u (lastOf top kind) shelves es kind first n ≡ true → soundTo u top ss es (first + n) ≡ true
+    unfolding soundTo passesFrom
+    run-on before e =
+        below-of (first + n) (soundAt u top ss es) (λ p h. go (ltb p first) p refl h)
+      where
+        go : (b : Bool) (p : ℕ) → ltb p first ≡ b → p < first + n → soundAt u top ss es p ≡ true
+        go true p t h = below-at first (soundAt u top ss es) before p (ltb-true p first t)
+        go false p t h =
+            let l = ltb-false p first t in
+            let i : first + (p - first) ≡ p = omega arith in
+            rw (← i) (at-place (p - first) (omega arith) ∙ below-at n _ e (p - first) (omega arith))
+
+    -- all up to a place behind it are sound: so is each of the run
+    pub run-back : (end : ℕ) → first + n ≤ end → soundTo u top ss es end ≡ true → passesFrom u (lastOf top kind) shelves es kind first n ≡ true
+    unfolding soundTo passesFrom
+    run-back end l e = below-of n _ (λ i h. sym (at-place i h) ∙ below-at end (soundAt u top ss es) e (first + i) (omega arith))
 
 -- ---- one run after the other: the first k are passed, and the places before `first`; the empty shelves among them are counted
 
@@ -268,16 +313,16 @@ walk-later r rs i =
     let e : r .count + i - r .count ≡ i = omega arith in
     rw (le-ltb (r .count + i) (r .count) (omega arith), e)
 
-module _ (u top panel : ℕ) (runs : List Code) (es : List ℕ) where
-  pub record Filing (seen₀ seen : List ℕ) (shelves first k : ℕ) : Type 0 where
+module _ (u top panel : ℕ) (shelves : Range) (runs : List Code) (es : List ℕ) where
+  pub record Filing (seen₀ seen : List ℕ) (empty first k : ℕ) : Type 0 where
     pub far : k ≤ 4
-    pub few : shelves ≤ first
-    pub counted : shelves + emptyShelves (spread first (drop k (meant runs))) es ≡ emptyShelves (laid runs) es
+    pub few : empty ≤ first
+    pub counted : empty + emptyShelves (spread first (drop k (meant runs))) es ≡ emptyShelves (laid runs) es
     pub long : first + total (drop k (meant runs)) ≡ length (laid runs)
     pub rest : (i : ℕ) → kindAt (laid runs) (first + i) ≡ walk (drop k (meant runs)) i
     pub so-far : soundTo u top (laid runs) es first ≡ true
     pub as-long : length seen ≡ length seen₀
-    pub marked : Marks es first seen
+    pub marks : Marks es first seen
 
   pub file-begins : (seen : List ℕ) → Marks es 0 seen → Filing seen seen 0 0 0
   unfolding soundTo below laid
@@ -290,10 +335,10 @@ module _ (u top panel : ℕ) (runs : List Code) (es : List ℕ) where
         rest = λ i. rw zero-add (laid-at runs i);
         so-far = refl;
         as-long = refl;
-        marked = m;
+        marks = m;
       }
 
-  module _ (four : length runs ≡ 4) (seen₀ seen : List ℕ) (shelves first k : ℕ) (at : Filing seen₀ seen shelves first k) where
+  module _ (four : length runs ≡ 4) (seen₀ seen : List ℕ) (empty first k : ℕ) (at : Filing seen₀ seen empty first k) where
     module _ (h : k < 4) where
       fits : first + getD runs k none .count + total (drop (suc k) (meant runs)) ≡ length (laid runs)
       unfolding total
@@ -302,76 +347,78 @@ module _ (u top panel : ℕ) (runs : List Code) (es : List ℕ) where
       file-most : first + getD runs k none .count ≤ length (laid runs)
       file-most = omega (arith, fits)
 
-      here : (p : ℕ) → first ≤ p → p < first + getD runs k none .count → kindAt (laid runs) p ≡ getD runs k none .kind
-      here p l m =
+      here-kind : (p : ℕ) → first ≤ p → p < first + getD runs k none .count → kindAt (laid runs) p ≡ getD runs k none .kind
+      here-kind p l m =
           let i = p - first in
           let e : first + i ≡ p = omega arith in
           rw (← e)
           (at .rest i ∙ rw (meant-from runs k four h) (walk-first (meaning (getD runs k none)) (drop (suc k) (meant runs)) i (omega arith)))
 
-      pub file-run : top < length seen₀ → length es ≡ elementSize * length (laid runs)
-          → Run u top (laid runs) es (getD runs k none .kind) first (first + getD runs k none .count) seen
+      pub file-run : top < 64 * length seen₀ → length es ≡ elementSize * length (laid runs) → Run top es first (first + getD runs k none .count) seen
       file-run m e =
           record {
             numbers = rw (at .as-long) m;
             in-order = omega arith;
             there = let w = file-most in omega arith;
-            one-type = here;
-            so-far = at .so-far;
-            marked = at .marked;
+            before = at .marks;
           }
 
       -- what the pass over the run told
-      module _ (r : Pass) (is : r ≡ when (soundTo u top (laid runs) es (first + getD runs k none .count)) (Sound (emptyFrom es first (first + getD runs k none .count - first))) Broken) where
+      abbrev passed : Bool
+      passed = passesFrom u (lastOf top (getD runs k none .kind)) shelves es (getD runs k none .kind) first (first + getD runs k none .count - first)
+
+      module _ (has : Shelved (laid runs) shelves) (r : Pass) (is : r ≡ when passed (Sound (emptyFrom es first (first + getD runs k none .count - first))) Broken) where
         module _ (n : ℕ) (e : r ≡ Sound n) where
-          told : (soundTo u top (laid runs) es (first + getD runs k none .count) ≡ true) × (n ≡ emptyFrom es first (getD runs k none .count))
+          told : (passed ≡ true) × (n ≡ emptyFrom es first (getD runs k none .count))
           told =
               let z : first + getD runs k none .count - first ≡ getD runs k none .count = omega arith in
-              tells-sound r _ (emptyFrom es first (getD runs k none .count)) (rw z at is) n e
+              let t = tells-sound r _ _ is n e in
+              (t .0, rw z at (t .1))
 
-          pub file-fits : shelves + n ≤ length (laid runs)
+          pub file-fits : empty + n ≤ length (laid runs)
           file-fits = omega (arith, at .few, told .1, empty-most es first (getD runs k none .count), file-most)
 
-          pub file-on : (s : List ℕ) → length s ≡ length seen
-              → (soundTo u top (laid runs) es (first + getD runs k none .count) ≡ true → Marks es (first + getD runs k none .count) s)
-              → (m : ℕ) → m ≡ shelves + when (eqb (getD runs k none .kind) storage) n 0
+          pub file-on : (s : List ℕ) → length s ≡ length seen → (passed ≡ true → Marks es (first + getD runs k none .count) s)
+              → (m : ℕ) → m ≡ empty + when (eqb (getD runs k none .kind) storage) n 0
               → Filing seen₀ s m (first + getD runs k none .count) (k + 1)
           unfolding spread
           file-on s l w m c =
-              let run = getD runs k none in
-              let behind = spread (first + run .count) (drop (suc k) (meant runs)) in
+              let r = getD runs k none in
+              let z : first + r .count - first ≡ r .count = omega arith in
+              let behind = spread (first + r .count) (drop (suc k) (meant runs)) in
               let whole = rw (meant-from runs k four h) at (at .counted) in
-              let split = shelves-of es (run .count) (run .kind) (run .first) first behind in
+              let split = shelves-of es (r .count) (r .kind) (r .first) first behind in
               let here = rw (told .1) at c in
               record {
                 far = omega arith;
-                few = omega (arith, at .few, counts-most (eqb (run .kind) storage) n, told .1, empty-most es first (run .count));
+                few = omega (arith, at .few, counts-most (eqb (r .kind) storage) n, told .1, empty-most es first (r .count));
                 counted = rw add-one (omega (arith, whole, split, here));
                 long = rw add-one fits;
                 rest = λ i.
                     rw (add-assoc, add-one)
-                    (at .rest (run .count + i) ∙ rw (meant-from runs k four h) (walk-later (meaning run) (drop (suc k) (meant runs)) i));
-                so-far = told .0;
+                    (at .rest (getD runs k none .count + i) ∙ rw (meant-from runs k four h) (walk-later (meaning (getD runs k none)) (drop (suc k) (meant runs)) i));
+                so-far = run-on u top (laid runs) shelves has es (r .kind) first (r .count) here-kind (at .so-far) (rw z at (told .0));
                 as-long = l ∙ at .as-long;
-                marked = w (told .0);
+                marks = w (told .0);
               }
 
         pub file-stops : r ≡ Broken → false ≡ passSound u top panel (laid runs) es
-        unfolding passSound soundTo
+        unfolding passSound
         file-stops e = all-stop false _ _ (go (soundTo u top (laid runs) es (length (laid runs))) refl) refl
           where
             go : (x : Bool) → soundTo u top (laid runs) es (length (laid runs)) ≡ x → false ≡ x
             go true f =
-                sym (tells-broken r _ _ is e)
-                ∙ below-of (first + getD runs k none .count) (soundAt u top (laid runs) es)
-                (λ p l. below-at (length (laid runs)) (soundAt u top (laid runs) es) f p (omega (arith, file-most)))
+                let r = getD runs k none in
+                let z : first + r .count - first ≡ r .count = omega arith in
+                sym (tells-broken _ _ _ is e)
+                ∙ rw z (run-back u top (laid runs) shelves has es (r .kind) first (r .count) here-kind (length (laid runs)) file-most f)
             go false f = refl
 
-    pub file-ends : 4 ≤ k → eqb panel shelves ≡ passSound u top panel (laid runs) es
+    pub file-ends : 4 ≤ k → eqb panel empty ≡ passSound u top panel (laid runs) es
     unfolding total spread emptyShelves passSound
     file-ends h =
         let e = rw (meant-end runs k four h) at (at .long) in
         let d : first ≡ length (laid runs) = omega arith in
         let c = rw (meant-end runs k four h) at (at .counted) in
-        let n : shelves ≡ emptyShelves (laid runs) es = omega arith in
+        let n : empty ≡ emptyShelves (laid runs) es = omega arith in
         all-go true _ _ _ (rw (← d) (sym (at .so-far))) refl (all-last _ _ (rw n))

@@ -1,14 +1,16 @@
 -- What the parts of the check are handed, and what they tell of the part of a table that they look at. Assumes nothing.
-use Prim.Native.Nat.{ℕ, zero, suc, _+_, _*_, _<_, _≤_}
+use Prim.Native.Nat.{ℕ, zero, suc, _+_, _*_, _/_, _%_, _^_, _<_, _≤_}
 use mathlib.Core.Path.{_≡_}
 use mathlib.Core.List.{List, [], _∷_}
-use mathlib.Core.Bool.{Bool, true}
-use lib.ListN.{length, getD}
+use mathlib.Core.Bool.{Bool, true, not}
+use lib.ListN.{length, getD, set}
+use lib.Bits.{bitOr}
 use lib.Dec.{eqb, leb}
 use Rattle.rules.specs.Choice.{when, allOf, differ, below}
 use Rattle.rules.specs.Tables.{elementSize, volume, source, mark, holder, id, zeroByte, emptyShelves}
-use Rattle.rules.specs.Roster.{Slot, kindAt, transport}
-use Rattle.rules.specs.Sound.{sourceSound, markSound, stockSound, holdSound, once}
+use Rattle.rules.specs.Roster.{Range, Slot, kindAt, kindOf, transport, storage}
+use Rattle.rules.specs.Sound.{markSound, stockSound, holdSound, once}
+use Rattle.tables.specs.Ranges.{lies}
 
 -- ---- an element by itself, and beside those before it; u is the unit's holder, top the last volume number
 
@@ -20,15 +22,31 @@ lastOf top kind = when (eqb kind transport) 0 top
 unfoldable pub endingSound : ℕ → ℕ → List ℕ → ℕ → Bool
 endingSound kind v elements p = allOf (markSound kind v (mark elements p) ∷ eqb (zeroByte elements p) 0 ∷ [])
 
+-- a range has the shelves of a roster: the storage addresses are those that lie in it
+abbrev pub Shelved : List Slot → Range → Type 0
+Shelved ss shelves = (a : ℕ) → eqb (kindOf ss a) storage ≡ lies shelves a
+
+-- "only a storage address or 0", "and 0 where empty", where a range has the shelves
+unfoldable pub sourceIn : Range → ℕ → ℕ → Bool
+sourceIn shelves v s = when (eqb s 0) true (allOf (differ v 0 ∷ lies shelves s ∷ []))
+
 -- what stands at a place, and who holds it, as in an element of a type whose last volume number is this
-unfoldable pub fitBy : ℕ → ℕ → List Slot → List ℕ → ℕ → ℕ → Bool
-fitBy u last ss elements kind p =
+unfoldable pub fitBy : ℕ → ℕ → Range → List ℕ → ℕ → ℕ → Bool
+fitBy u last shelves elements kind p =
     allOf
     (leb (volume elements p) last
-    ∷ sourceSound ss (volume elements p) (source elements p)
+    ∷ sourceIn shelves (volume elements p) (source elements p)
     ∷ endingSound kind (volume elements p) elements p
     ∷ holdSound u (holder elements p) (id elements p)
     ∷ [])
+
+-- the same, and no volume that stands before it
+unfoldable pub passesAt : ℕ → ℕ → Range → List ℕ → ℕ → ℕ → Bool
+passesAt u last shelves elements kind p = allOf (fitBy u last shelves elements kind p ∷ once elements p ∷ [])
+
+-- of each of the n places from `first` on
+unfoldable pub passesFrom : ℕ → ℕ → Range → List ℕ → ℕ → ℕ → ℕ → Bool
+passesFrom u last shelves elements kind first n = below n (λ i. passesAt u last shelves elements kind (first + i))
 
 -- all that is asked of the element at a place
 unfoldable pub soundAt : ℕ → ℕ → List Slot → List ℕ → ℕ → Bool
@@ -59,16 +77,20 @@ passSound u top panel ss elements = allOf (soundTo u top ss elements (length ss)
 unfoldable pub absent : List ℕ → ℕ → ℕ → Bool
 absent elements p y = below p (λ q. differ (volume elements q) y)
 
--- a mark for each volume number up to the last that has one: 1 where it stands at one of the first p places
-pub record Marks (elements : List ℕ) (p : ℕ) (seen : List ℕ) : Type 0 where
-  pub told : (y : ℕ) → 0 < y → y < length seen → getD seen y 0 ≡ when (absent elements p y) 0 1
+-- a bit for each number, 64 in a word: whether it is set, and the words with it set
+unfoldable pub marked : List ℕ → ℕ → Bool
+marked seen y = eqb (getD seen (y / 64) 0 / 2 ^ (y % 64) % 2) 1
 
--- a run of one type, at the places from `first` to before `end`: there are marks enough, the places before it are sound, and their volumes
--- are marked
-pub record Run (u top : ℕ) (ss : List Slot) (elements : List ℕ) (kind first end : ℕ) (seen : List ℕ) : Type 0 where
-  pub numbers : top < length seen
+unfoldable pub marking : List ℕ → ℕ → List ℕ
+marking seen v = set seen (v / 64) (bitOr (getD seen (v / 64) 0) (2 ^ (v % 64)))
+
+-- each volume number up to the last that has a bit is marked where it stands at one of the first p places
+pub record Marks (elements : List ℕ) (p : ℕ) (seen : List ℕ) : Type 0 where
+  pub told : (y : ℕ) → 0 < y → y < 64 * length seen → marked seen y ≡ not (absent elements p y)
+
+-- the places from `first` to before `end`: there are marks enough, and the volumes before them are marked
+pub record Run (top : ℕ) (elements : List ℕ) (first end : ℕ) (seen : List ℕ) : Type 0 where
+  pub numbers : top < 64 * length seen
   pub in-order : first ≤ end
   pub there : elementSize * end ≤ length elements
-  pub one-type : (p : ℕ) → first ≤ p → p < end → kindAt ss p ≡ kind
-  pub so-far : soundTo u top ss elements first ≡ true
-  pub marked : Marks elements first seen
+  pub before : Marks elements first seen

@@ -1,4 +1,5 @@
 // The elements in one pass: what stands in each, who holds it, its last byte, that no volume stands twice, and how many shelves are empty.
+use crate::marks;
 use tables::Range;
 ghost use mathlib.Core.Path.{_≡_};
 ghost use mathlib.Core.Bool.{true};
@@ -8,19 +9,13 @@ ghost use lib.ListN.{length};
 ghost use lib.Dec.{eqb};
 ghost use Rattle.rules.specs.Choice.{when, allOf};
 ghost use Rattle.rules.specs.Tables.{elementSize, elementAt, holder, id, emptyShelves};
-ghost use Rattle.rules.specs.Sound.{sourceSound, markSound, holdSound, elementsSound};
-ghost use Rattle.tables.specs.Ranges.{laid};
-ghost use Rattle.sound.specs.Checks.{lastOf, endingSound, fitBy, soundTo, emptyFrom, passSound, Marks, Run};
+ghost use Rattle.rules.specs.Sound.{markSound, holdSound, elementsSound};
+ghost use Rattle.tables.specs.Ranges.{meaning, laid};
+ghost use Rattle.sound.specs.Checks.{lastOf, endingSound, Shelved, sourceIn, fitBy, passesFrom, emptyFrom, passSound, Marks, Run};
 
-// A mark for each volume number, and none for 0.
-const SEEN: usize = layout::MOST_VOLUMES + 1;
-
-// Marks enough where the volumes are few.
-const FEW: usize = 64;
-
-// "Sound tables now allow only a storage address or 0", "and 0 where empty"
-fn source_sound(runs: [Range; 4], volume: u16, source: u16) -> bool
-    ensures { λ r. ⌜ r ≡ sourceSound (laid runs) volume source ⌝ }
+// "Sound tables now allow only a storage address or 0", "and 0 where empty": a storage address is one of the storage range.
+fn source_sound(shelves: Range, volume: u16, source: u16) -> bool
+    ensures { λ r. ⌜ r ≡ sourceIn (meaning shelves) volume source ⌝ }
 {
     if source == 0 {
         return true;
@@ -28,7 +23,7 @@ fn source_sound(runs: [Range; 4], volume: u16, source: u16) -> bool
     if volume == 0 {
         return false;
     }
-    tables::kind_of(runs, source) == layout::STORAGE
+    tables::lies_in(shelves, source as u32)
 }
 
 // "Each volume number is at most V"; "Transports are empty.": the last number that may stand in an element of a type.
@@ -105,16 +100,16 @@ fn held_sound(unit: u8, elements: &[u8], p: usize) -> bool
 }
 
 // The element at a place by itself, as one of a type whose last volume number is this.
-fn fits(runs: [Range; 4], unit: u8, last: usize, kind: u8, elements: &[u8], p: usize) -> bool
+fn fits(shelves: Range, unit: u8, last: usize, kind: u8, elements: &[u8], p: usize) -> bool
     requires { ⌜ elementAt p + elementSize ≤ length (now elements) ⌝ }
-    ensures { λ r. ⌜ r ≡ fitBy unit last (laid runs) (now (elements .entry)) kind p ⌝ }
+    ensures { λ r. ⌜ r ≡ fitBy unit last (meaning shelves) (now (elements .entry)) kind p ⌝ }
 {
     let volume = tables::element::volume(elements, p);
     if (volume as usize) > last {
         return false;
     }
     let source = tables::element::source(elements, p);
-    if !source_sound(runs, volume, source) {
+    if !source_sound(shelves, volume, source) {
         return false;
     }
     if !ending_sound(kind, volume, elements, p) {
@@ -129,35 +124,34 @@ enum Pass {
     Broken,
 }
 
-// The places of a run: each by itself, and "0 aside, stands at most once", with a mark for each volume number seen. The empty ones are
-// counted on the way.
+// The places of a run: each by itself, and "0 aside, stands at most once", with a mark for each volume number seen.
 fn run_sound(
-    runs: [Range; 4],
+    shelves: Range,
     unit: u8,
     top: usize,
     kind: u8,
     first: usize,
     end: usize,
     elements: &[u8],
-    seen: &mut [u8],
+    seen: &mut [u64],
 ) -> Pass
-    requires { ⌜ Run unit top (laid runs) (now elements) kind first end (now seen) ⌝ }
-    ensures { λ r. ⌜ r ≡ when (soundTo unit top (laid runs) (now (elements .entry)) end) (Pass.Sound (emptyFrom (now (elements .entry)) first (end - first))) Pass.Broken ⌝ }
-    ensures { λ _. ⌜ (soundTo unit top (laid runs) (now (elements .entry)) end ≡ true → Marks (now (elements .entry)) end (now (seen .exit))) ⌝ }
+    requires { ⌜ Run top (now elements) first end (now seen) ⌝ }
+    ensures { λ r. ⌜ r ≡ when (passesFrom unit (lastOf top kind) (meaning shelves) (now (elements .entry)) kind first (end - first)) (Pass.Sound (emptyFrom (now (elements .entry)) first (end - first))) Pass.Broken ⌝ }
+    ensures { λ _. ⌜ (passesFrom unit (lastOf top kind) (meaning shelves) (now (elements .entry)) kind first (end - first) ≡ true → Marks (now (elements .entry)) end (now (seen .exit))) ⌝ }
 {
     let last = last_of(top, kind);
     let mut empty: usize = 0;
     let mut p = first;
     while p < end {
-        if !fits(runs, unit, last, kind, elements, p) {
+        if !fits(shelves, unit, last, kind, elements, p) {
             return Pass::Broken;
         }
         let v = tables::element::volume(elements, p) as usize;
         if v != 0 {
-            if seen[v] != 0 {
+            if marks::is_marked(seen, v) {
                 return Pass::Broken;
             }
-            seen[v] = 1;
+            marks::mark(seen, v);
         } else {
             empty += 1;
         }
@@ -169,66 +163,54 @@ fn run_sound(
 // Every place, one run after the other, each once, and the panel's number by the empty ones among the shelves; no number is marked before
 // the first.
 fn places_sound(
+    shelves: Range,
     runs: [Range; 4],
     unit: u8,
     top: usize,
     panel: u16,
     elements: &[u8],
-    seen: &mut [u8],
+    seen: &mut [u64],
 ) -> bool
-    requires { ⌜ (top < length (now seen)) × Marks (now elements) 0 (now seen) ⌝ }
+    requires { ⌜ (top < 64 * length (now seen)) × Marks (now elements) 0 (now seen) ⌝ }
     requires { ⌜ length (now elements) ≡ elementSize * length (laid runs) ⌝ }
+    requires { ⌜ Shelved (laid runs) (meaning shelves) ⌝ }
     ensures { λ r. ⌜ r ≡ passSound unit top panel (laid runs) (now (elements .entry)) ⌝ }
 {
-    let mut shelves: usize = 0;
+    let mut empty_shelves: usize = 0;
     let mut first: usize = 0;
     let mut k: usize = 0;
     while k < 4 {
         let r = runs[k];
         let end = first + (r.count as usize);
-        let Pass::Sound(empty) = run_sound(runs, unit, top, r.kind, first, end, elements, seen)
+        let Pass::Sound(empty) = run_sound(shelves, unit, top, r.kind, first, end, elements, seen)
         else {
             return false;
         };
         if r.kind == layout::STORAGE {
-            shelves += empty;
+            empty_shelves += empty;
         }
         first = end;
         k += 1;
     }
-    (panel as usize) == shelves
+    (panel as usize) == empty_shelves
 }
 
-// Few volumes: only few marks are cleared.
-fn few_sound(runs: [Range; 4], unit: u8, top: usize, panel: u16, elements: &[u8]) -> bool
-    requires { ⌜ top < 64 ⌝ }
-    requires { ⌜ length (now elements) ≡ elementSize * length (laid runs) ⌝ }
-    ensures { λ r. ⌜ r ≡ passSound unit top panel (laid runs) (now (elements .entry)) ⌝ }
-{
-    let mut seen = [0u8; FEW];
-    places_sound(runs, unit, top, panel, elements, &mut seen)
-}
-
-// As many volumes as there may be.
-fn many_sound(runs: [Range; 4], unit: u8, top: usize, panel: u16, elements: &[u8]) -> bool
+// The elements of the runs, where the storage range, the unit's holder, the last volume number and the number that the panel shows are these.
+pub fn elements_sound(
+    shelves: Range,
+    runs: [Range; 4],
+    unit: u8,
+    top: usize,
+    panel: u16,
+    elements: &[u8],
+) -> bool
     requires { ⌜ top ≤ 512 ⌝ }
-    requires { ⌜ length (now elements) ≡ elementSize * length (laid runs) ⌝ }
-    ensures { λ r. ⌜ r ≡ passSound unit top panel (laid runs) (now (elements .entry)) ⌝ }
-{
-    let mut seen = [0u8; SEEN];
-    places_sound(runs, unit, top, panel, elements, &mut seen)
-}
-
-// The elements of the runs, where the unit's holder, the last volume number and the number that the panel shows are these.
-pub fn elements_sound(runs: [Range; 4], unit: u8, top: usize, panel: u16, elements: &[u8]) -> bool
-    requires { ⌜ top ≤ 512 ⌝ }
+    requires { ⌜ Shelved (laid runs) (meaning shelves) ⌝ }
     ensures { λ r. ⌜ r ≡ allOf (elementsSound (laid runs) unit top (now (elements .entry)) ∷ eqb panel (emptyShelves (laid runs) (now (elements .entry))) ∷ []) ⌝ }
 {
     if elements.len() != layout::ELEMENT_SIZE * tables::total(runs) {
         return false;
     }
-    if top < FEW {
-        return few_sound(runs, unit, top, panel, elements);
-    }
-    many_sound(runs, unit, top, panel, elements)
+    let mut seen = [0u64; marks::WORDS];
+    places_sound(shelves, runs, unit, top, panel, elements, &mut seen)
 }

@@ -1,5 +1,6 @@
 // "Sound tables": the check that every entry makes first, and the runs of the element table that it hands on.
 pub mod element;
+mod marks;
 
 use tables::Range;
 ghost use mathlib.Core.Path.{_≡_};
@@ -64,13 +65,14 @@ fn parts_sound(
     requires { ⌜ Runs runs (now head) ⌝ }
     ensures { λ r. ⌜ r ≡ sound (lent (now (head .entry)) (now (elements .entry)) (others (now (tags .entry)) (now (blank .entry)))) ⌝ }
 {
-    if !sound_head::sound(rs, head) {
+    if !sound_head::sound(rs, runs, head) {
         return false;
     }
     if !rest_sound(tags, blank) {
         return false;
     }
     element::elements_sound(
+        rs[1],
         runs,
         tables::head::unit(head),
         tables::volumes(tags),

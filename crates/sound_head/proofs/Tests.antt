@@ -86,11 +86,5 @@ pub any-done : false ≡ anyOf []
 unfolding anyOf
 any-done = refl
 
-pub any-le-stop : (a b : ℕ) (bs : List Bool) → a ≤ b → true ≡ anyOf (leb a b ∷ bs)
-any-le-stop a b bs t = any-stop true (leb a b) bs (sym (le-leb a b t)) refl
-
-pub any-le-go : (a b : ℕ) (z : Bool) (bs : List Bool) → b < a → z ≡ anyOf bs → z ≡ anyOf (leb a b ∷ bs)
-any-le-go a b z bs t w = any-go false (leb a b) z bs (sym (lt-leb a b t)) refl w
-
 pub ruleset tests =
-    (all-stop, all-go, all-not-stop, all-not-go, all-last, all-done, all-eq-stop, all-eq-go, all-le-stop, all-le-go, all-le-over, all-le-within, all-lt-stop, all-lt-go, all-differ-stop, all-differ-go, any-stop, any-go, any-last, any-done, any-le-stop, any-le-go, ladder)
+    (all-stop, all-go, all-not-stop, all-not-go, all-last, all-done, all-eq-stop, all-eq-go, all-le-stop, all-le-go, all-le-over, all-le-within, all-lt-stop, all-lt-go, all-differ-stop, all-differ-go, any-stop, any-go, any-last, any-done, ladder)

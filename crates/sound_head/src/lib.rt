@@ -1,16 +1,19 @@
 // "Sound tables", the head: its ranges, the unit's holder, and each host's record.
 use tables::Range;
 ghost use mathlib.Core.Path.{_≡_};
+ghost use mathlib.Core.Bool.{true};
 ghost use mathlib.Core.List.{[], _∷_};
-ghost use Prim.Native.Nat.{suc, _+_, _≤_, _<_};
-ghost use lib.ListN.{length, getD, drop};
+ghost use Prim.Native.Nat.{suc, _≤_};
+ghost use lib.ListN.{length};
 ghost use lib.Dec.{eqb};
 ghost use Rattle.rules.specs.Choice.{allOf, below};
 ghost use Rattle.rules.specs.Tables.{headSize, hosts, key, asc, ascq, attention, attentionq};
-ghost use Rattle.rules.specs.Roster.{ranges};
-ghost use Rattle.rules.specs.Sound.{within, rangeSound, noOverlap, clear, rangesSound, senseSound, attentionSound, headSound};
-ghost use Rattle.tables.specs.Ranges.{meaning, meant, noRange};
+ghost use Rattle.rules.specs.Roster.{ranges, sorted};
+ghost use Rattle.rules.specs.Sound.{within, rangeSound, rangesSound, senseSound, attentionSound, headSound};
+ghost use Rattle.tables.specs.Ranges.{meaning, meant, Runs};
 ghost use Rattle.sound_head.specs.Counts.{countsFit};
+ghost use Rattle.sound_head.specs.InLine.{eachSound, before, inLine};
+ghost use Rattle.sound_head.specs.Hosts.{QuietHost, Quiet, hostsSound};
 
 // low to high, both ends included
 fn within(low: usize, high: usize, n: usize) -> bool
@@ -70,51 +73,51 @@ fn range_sound(r: Range) -> bool
     true
 }
 
-// "with no overlap"
-fn no_overlap(r: Range, s: Range) -> bool
-    ensures { λ b. ⌜ b ≡ noOverlap (meaning r) (meaning s) ⌝ }
+// Every index of a range is a plain number, here and below: the ranges then stay in registers.
+fn each_sound(rs: [Range; 4]) -> bool
+    ensures { λ b. ⌜ b ≡ eachSound (meant rs) ⌝ }
 {
-    let behind_r = (r.first as u32) + (r.count as u32);
-    let behind_s = (s.first as u32) + (s.count as u32);
-    if behind_r <= (s.first as u32) {
-        return true;
+    if !range_sound(rs[0]) {
+        return false;
     }
-    if behind_s <= (r.first as u32) {
-        return true;
+    if !range_sound(rs[1]) {
+        return false;
     }
-    false
+    if !range_sound(rs[2]) {
+        return false;
+    }
+    range_sound(rs[3])
 }
 
-// The range at k overlaps none of those behind it.
-fn clear_of(rs: [Range; 4], k: usize) -> bool
-    requires { ⌜ k < 4 ⌝ }
-    ensures { λ b. ⌜ b ≡ clear (getD (meant rs) k noRange) (drop (suc k) (meant rs)) ⌝ }
+// One range ends before another begins.
+fn before(r: Range, s: Range) -> bool
+    ensures { λ b. ⌜ b ≡ before (meaning r) (meaning s) ⌝ }
 {
-    let r = rs[k];
-    let mut j = k + 1;
-    while j < 4 {
-        if !no_overlap(r, rs[j]) {
-            return false;
-        }
-        j += 1;
-    }
-    true
+    (r.first as u32) + (r.count as u32) <= (s.first as u32)
 }
 
-fn ranges_sound(rs: [Range; 4]) -> bool
+// "with no overlap": of ranges by first address only neighbours can overlap.
+fn in_line(runs: [Range; 4]) -> bool
+    ensures { λ b. ⌜ b ≡ inLine (meant runs) ⌝ }
+{
+    if !before(runs[0], runs[1]) {
+        return false;
+    }
+    if !before(runs[1], runs[2]) {
+        return false;
+    }
+    before(runs[2], runs[3])
+}
+
+// The ranges, and the same by first address.
+fn ranges_sound(rs: [Range; 4], runs: [Range; 4]) -> bool
+    requires { ⌜ meant runs ≡ sorted (meant rs) ⌝ }
     ensures { λ b. ⌜ b ≡ rangesSound (meant rs) ⌝ }
 {
-    let mut k: usize = 0;
-    while k < 4 {
-        if !range_sound(rs[k]) {
-            return false;
-        }
-        if !clear_of(rs, k) {
-            return false;
-        }
-        k += 1;
+    if !each_sound(rs) {
+        return false;
     }
-    true
+    in_line(runs)
 }
 
 // "Sense key at most 15, and key 0 has codes 0."
@@ -199,23 +202,65 @@ fn attentions_sound(head: &[u8]) -> bool
     true
 }
 
-// The head by itself, which has its length and these ranges.
-pub fn sound(rs: [Range; 4], head: &[u8]) -> bool
-    requires { ⌜ length (now head) ≡ headSize ⌝ }
-    requires { ⌜ meant rs ≡ ranges (now head) ⌝ }
-    ensures { λ r. ⌜ r ≡ headSound (now (head .entry)) ⌝ }
+// A host has neither sense nor attention: its bytes, the first four of them as one number, are zeros.
+fn host_quiet(head: &[u8], host: u8) -> bool
+    requires { ⌜ headSize ≤ length (now head) ⌝ }
+    requires { ⌜ host ≤ hosts ⌝ }
+    ensures { λ r. ⌜ (r ≡ true → QuietHost (now (head .entry)) host) ⌝ }
 {
-    if !counts_sound(rs) {
+    let at = layout::host_at(host);
+    let high = wire::word_at(head, at) as u32;
+    let low = wire::word_at(head, at + 2) as u32;
+    if high * 65536 + low != 0 {
         return false;
     }
-    if !ranges_sound(rs) {
-        return false;
+    tables::head::attentionq(head, host) == 0
+}
+
+// No host has any: mostly so.
+fn quiet(head: &[u8]) -> bool
+    requires { ⌜ headSize ≤ length (now head) ⌝ }
+    ensures { λ r. ⌜ (r ≡ true → Quiet (now (head .entry))) ⌝ }
+{
+    let mut i: u8 = 0;
+    while i < layout::HOSTS {
+        if !host_quiet(head, i + 1) {
+            return false;
+        }
+        i += 1;
     }
-    if tables::head::unit(head) > layout::HOSTS {
-        return false;
+    true
+}
+
+// Each host's sense and attention.
+fn hosts_sound(head: &[u8]) -> bool
+    requires { ⌜ headSize ≤ length (now head) ⌝ }
+    ensures { λ r. ⌜ r ≡ hostsSound (now (head .entry)) ⌝ }
+{
+    if quiet(head) {
+        return true;
     }
     if !senses_sound(head) {
         return false;
     }
     attentions_sound(head)
+}
+
+// The head by itself, which has its length and these ranges, and the same by first address.
+pub fn sound(rs: [Range; 4], runs: [Range; 4], head: &[u8]) -> bool
+    requires { ⌜ length (now head) ≡ headSize ⌝ }
+    requires { ⌜ meant rs ≡ ranges (now head) ⌝ }
+    requires { ⌜ Runs runs (now head) ⌝ }
+    ensures { λ r. ⌜ r ≡ headSound (now (head .entry)) ⌝ }
+{
+    if !counts_sound(rs) {
+        return false;
+    }
+    if !ranges_sound(rs, runs) {
+        return false;
+    }
+    if tables::head::unit(head) > layout::HOSTS {
+        return false;
+    }
+    hosts_sound(head)
 }

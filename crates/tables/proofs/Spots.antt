@@ -5,7 +5,7 @@ use native.Mathlib.Omega.{arith}
 use mathlib.Core.Path.{_≡_, refl, ap, _∙_}
 use mathlib.Core.Logic.{_≢_}
 use mathlib.Core.Bool.{Bool, true, false}
-use mathlib.Core.List.{List, [], _∷_, _++_}
+use mathlib.Core.List.{List, _++_}
 use lib.ListN.{length, getD, drop}
 use lib.Dec.{eqb, leb, ltb}
 use borrow.Author.Tests.{leb-true, leb-false, ltb-true, ltb-false, eqb-false, eqb-true, ne-eqb}
@@ -75,6 +75,15 @@ spot-run r q a rest = go (leb (r .first) a) (ltb a (r .first + r .count)) refl r
         let l = leb-false (r .first) a e in
         let o = slots-out (r .count) (r .kind) (r .first) q a rest (λ i h z. omega arith) in
         cc
+
+pub kind-run : (r : Range) (q a : ℕ) (rest : List Slot)
+    → kindOf (slots (r .kind) (r .first) q (r .count) ++ rest) a ≡ when (lies r a) (r .kind) (kindOf rest a)
+unfolding spotOf when
+kind-run r q a rest = ap (λ (s : Spot). s .kind) (spot-run r q a rest) ∙ go (lies r a)
+  where
+    go : (b : Bool) → when b (spot (r .kind) (a - r .first)) (spot (kindOf rest a) (r .count + placeOf rest a)) .kind ≡ when b (r .kind) (kindOf rest a)
+    go true = refl
+    go false = refl
 
 -- ---- the turns of the loop over the runs: the first k are passed, and `passed` places with them
 

@@ -9,7 +9,7 @@ ghost use Prim.Native.Nat.{_+_, _≤_, _<_};
 ghost use lib.ListN.{length};
 ghost use Rattle.rules.specs.Choice.{when};
 ghost use Rattle.rules.specs.Tables.{headSize, volumes as volumesOf};
-ghost use Rattle.rules.specs.Roster.{range, ranges as rangesOf, sorted as sortedOf, kindOf, firstTransport};
+ghost use Rattle.rules.specs.Roster.{range, ranges as rangesOf, sorted as sortedOf, firstTransport};
 ghost use Rattle.tables.specs.Ranges.{meaning, meant, laid, inserted, lies, leads, Runs};
 ghost use Rattle.tables.specs.LookUp.{admits, found, spotOf};
 
@@ -145,7 +145,7 @@ pub fn total(runs: [Range; 4]) -> usize
 }
 
 // An address lies in a range.
-fn lies_in(r: Range, address: u32) -> bool
+pub fn lies_in(r: Range, address: u32) -> bool
     ensures { λ b. ⌜ b ≡ lies (meaning r) address ⌝ }
 {
     let first = r.first as u32;
@@ -180,13 +180,6 @@ pub fn spot_of(runs: [Range; 4], address: u32) -> Spot
         kind: 0,
         place: passed,
     }
-}
-
-// The type of an address; 0 where it is no element's.
-pub fn kind_of(runs: [Range; 4], address: u16) -> u8
-    ensures { λ r. ⌜ r ≡ kindOf (laid runs) address ⌝ }
-{
-    spot_of(runs, address as u32).kind
 }
 
 // An element of this type is looked for.

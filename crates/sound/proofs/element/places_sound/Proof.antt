@@ -3,19 +3,20 @@ use Prim.Native.Nat.{_-_}
 use mathlib.Core.Logic.{⊎-elim}
 use native.Mathlib.Omega.{arith}
 use borrow.Author.Needs.{needs}
+use Rattle.tables.specs.Ranges.{meaning}
 use Rattle.sound.proofs.Empty.{add-shelf, add-other}
 use Rattle.sound.proofs.Pass.{Filing, file-begins, file-run, file-fits, file-on, file-stops, file-ends}
 use Rattle.sound.proofs.element.places_sound.Statement.{statement}
 use Rattle.sound.proofs.element.places_sound.Tie as tie
 
 abbrev Inv-loop : tie.InvT-loop
-Inv-loop unit top panel elements seen₀ runs shelves₀ first₀ k₀ seen shelves first k = Filing unit top panel runs elements seen₀ seen shelves first k
+Inv-loop shelves unit top panel elements seen₀ runs empty-shelves₀ first₀ k₀ seen empty-shelves first k = Filing unit top panel (meaning shelves) runs elements seen₀ seen empty-shelves first k
 
 abbrev μ-loop : tie.MeasureT-loop
-μ-loop unit top panel elements seen₀ runs shelves₀ first₀ k₀ seen shelves first k = 4 - k
+μ-loop shelves unit top panel elements seen₀ runs empty-shelves₀ first₀ k₀ seen empty-shelves first k = 4 - k
 
 loop-holds : tie.Need-loop-holds Inv-loop μ-loop
-loop-holds c = file-begins _ _ _ _ _ _ (c .before .before .pre .0 .1)
+loop-holds c = file-begins _ _ _ _ _ _ _ (c .before .before .pre .0 .1)
 
 mul-r : tie.Need-mul-r Inv-loop μ-loop
 mul-r c = search needs
@@ -30,14 +31,14 @@ add-end : tie.Need-add-end Inv-loop μ-loop
 add-end c =
     let turn = c .before .before .before in
     let start = turn .before .before .before in
-    let run = file-run _ _ _ _ _ (search needs) _ _ _ _ _ (turn .loop .inv) (c .before .before .loop-test .taken) (start .pre .0 .0) (start .pre .1) in
+    let run = file-run _ _ _ _ _ _ (search needs) _ _ _ _ _ (turn .loop .inv) (c .before .before .loop-test .taken) (start .pre .0 .0) (start .pre .1 .0) in
     omega (arith, run .there)
 
 run-sound-requires : tie.Need-run-sound-requires Inv-loop μ-loop
 run-sound-requires c κs =
     let turn = c .before .before .before .before in
     let start = turn .before .before .before in
-    file-run _ _ _ _ _ (search needs) _ _ _ _ _ (turn .loop .inv) (c .before .before .before .loop-test .taken) (start .pre .0 .0) (start .pre .1)
+    file-run _ _ _ _ _ _ (search needs) _ _ _ _ _ (turn .loop .inv) (c .before .before .before .loop-test .taken) (start .pre .0 .0) (start .pre .1 .0)
 
 same-length : tie.Need-same-length Inv-loop μ-loop
 same-length c = search needs
@@ -52,15 +53,16 @@ returns : tie.Need-returns Inv-loop μ-loop
 returns c =
     let call = c .before .before .before .before in
     let test = call .before .before .before .before in
-    file-stops _ _ _ _ _ (search needs) _ _ _ _ _ (test .before .loop .inv) (test .loop-test .taken) _ (call .run-sound .ensures .0) (c .enum-told .given .1)
+    let start = test .before .before .before .before in
+    file-stops _ _ _ _ _ _ (search needs) _ _ _ _ _ (test .before .loop .inv) (test .loop-test .taken) (start .pre .1 .1) _ (call .run-sound .ensures .0) (c .enum-told .given .1)
 
-add-shelves : tie.Need-add-shelves Inv-loop μ-loop
-add-shelves c =
+add-empty-shelves : tie.Need-add-empty-shelves Inv-loop μ-loop
+add-empty-shelves c =
     let told = c .before .before .before in
     let call = told .before .before .before .before in
     let test = call .before .before .before .before in
     let start = test .before .before .before .before in
-    omega (arith, start .pre .1, file-fits _ _ _ _ _ (search needs) _ _ _ _ _ (test .before .loop .inv) (test .loop-test .taken) _ (call .run-sound .ensures .0) _ (told .empty .given .1))
+    omega (arith, start .good, start .pre .1 .0, file-fits _ _ _ _ _ _ (search needs) _ _ _ _ _ (test .before .loop .inv) (test .loop-test .taken) (start .pre .1 .1) _ (call .run-sound .ensures .0) _ (told .empty .given .1))
 
 add-k : tie.Need-add-k Inv-loop μ-loop
 add-k c = search needs
@@ -73,14 +75,15 @@ loop-again c =
     let told = c .before .before .before in
     let call = told .before .before .before .before in
     let test = call .before .before .before .before in
-    file-on _ _ _ _ _ (search needs) _ _ _ _ _ (test .before .loop .inv) (test .loop-test .taken) _ (call .run-sound .ensures .0) _ (told .empty .given .1) _ (search needs) (call .run-sound .ensures .1) _
+    let start = test .before .before .before .before in
+    file-on _ _ _ _ _ _ (search needs) _ _ _ _ _ (test .before .loop .inv) (test .loop-test .taken) (start .pre .1 .1) _ (call .run-sound .ensures .0) _ (told .empty .given .1) _ (search needs) (call .run-sound .ensures .1) _
     (⊎-elim (λ w. add-shelf _ _ _ _ (w .0 .taken) (w .1)) (λ w. add-other _ _ _ _ (w .0 .left) (w .1)) (c .if1 .came))
 
 same-length-2 : tie.Need-same-length-2 Inv-loop μ-loop
 same-length-2 c = c .before .loop .inv .as-long
 
 returns-2 : tie.Need-returns-2 Inv-loop μ-loop
-returns-2 c = file-ends _ _ _ _ _ (search needs) _ _ _ _ _ (c .before .loop .inv) (c .loop-test .left)
+returns-2 c = file-ends _ _ _ _ _ _ (search needs) _ _ _ _ _ (c .before .loop .inv) (c .loop-test .left)
 
 pub places-sound-spec : {M : Type 1} → statement M
 places-sound-spec =
@@ -98,7 +101,7 @@ places-sound-spec =
     enum-told
     same-length
     returns
-    add-shelves
+    add-empty-shelves
     add-k
     loop-less
     loop-again

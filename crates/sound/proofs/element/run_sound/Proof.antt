@@ -1,24 +1,25 @@
--- `sound::element::run_sound`: at the loop's head the places before p are passed, their volumes marked, the empty ones counted. Assumes nothing.
+-- `sound::element::run_sound`: at the loop's head the places before p are passed, and their volumes marked. Assumes nothing.
 use Prim.Native.Nat.{_-_}
+use mathlib.Core.Path.{_∙_}
 use mathlib.Core.Logic.{⊎-elim}
 use native.Mathlib.Omega.{arith}
 use borrow.Author.Needs.{needs}
-use Rattle.tables.specs.Ranges.{laid}
+use Rattle.tables.specs.Ranges.{meaning}
 use Rattle.sound.proofs.Pass.{Passing, pass-begins, pass-unfit, pass-twice, pass-new, pass-empty, pass-all, volume-small}
 use Rattle.sound.proofs.element.run_sound.Statement.{statement}
 use Rattle.sound.proofs.element.run_sound.Tie as tie
 
 abbrev Inv-loop : tie.InvT-loop
-Inv-loop runs unit top kind first end elements seen₀ last empty₀ p₀ seen empty p = Passing unit top (laid runs) elements kind first end seen₀ seen empty p
+Inv-loop shelves unit top kind first end elements seen₀ last empty₀ p₀ seen empty p = Passing unit top (meaning shelves) elements kind first end seen₀ seen empty p
 
 abbrev μ-loop : tie.MeasureT-loop
-μ-loop runs unit top kind first end elements seen₀ last empty₀ p₀ seen empty p = end - p
-
-loop-holds : tie.Need-loop-holds Inv-loop μ-loop
-loop-holds c = pass-begins _ _ _ _ _ _ _ _ (c .before .before .before .pre)
+μ-loop shelves unit top kind first end elements seen₀ last empty₀ p₀ seen empty p = end - p
 
 last-of-requires : tie.Need-last-of-requires Inv-loop μ-loop
 last-of-requires c κs = search needs
+
+loop-holds : tie.Need-loop-holds Inv-loop μ-loop
+loop-holds c = pass-begins _ _ _ _ _ _ _ _ (c .before .before .before .pre)
 
 fits-requires : tie.Need-fits-requires Inv-loop μ-loop
 fits-requires c κs =
@@ -42,8 +43,8 @@ volume-requires c κs =
 cast-v : tie.Need-cast-v Inv-loop μ-loop
 cast-v c = search needs
 
-slice-read-if3 : tie.Need-slice-read-if3 Inv-loop μ-loop
-slice-read-if3 c =
+is-marked-requires : tie.Need-is-marked-requires Inv-loop μ-loop
+is-marked-requires c κs =
     let read = c .before .before in
     let fit = read .before .before in
     let turn = fit .before .before in
@@ -51,20 +52,21 @@ slice-read-if3 c =
     volume-small _ _ _ _ _ _ _ _ (start .pre) _ _ _ (turn .loop .inv) (fit .before .loop-test .taken) _ (turn .before .last-of .ensures) _ (fit .fits2 .ensures) (read .before .if1 .left) _ (read .volume .ensures)
 
 same-length-2 : tie.Need-same-length-2 Inv-loop μ-loop
-same-length-2 c = let fit = c .before .before .before .before .before in fit .before .before .loop .inv .as-long
+same-length-2 c = let fit = c .before .before .before .before .before .before in fit .before .before .loop .inv .as-long
 
 returns-2 : tie.Need-returns-2 Inv-loop μ-loop
 returns-2 c =
-    let some = c .before .before in
+    let asked = c .before in
+    let some = asked .before .before in
     let read = some .before in
     let fit = read .before .before in
     let turn = fit .before .before in
     let start = turn .before .before .before .before in
-    pass-twice _ _ _ _ _ _ _ _ (start .pre) _ _ _ (turn .loop .inv) (fit .before .loop-test .taken) _ (turn .before .last-of .ensures) _ (fit .fits2 .ensures) (read .before .if1 .left) _ (read .volume .ensures) (some .if2 .taken) (c .if3 .taken)
+    pass-twice _ _ _ _ _ _ _ _ (start .pre) _ _ _ (turn .loop .inv) (fit .before .loop-test .taken) _ (turn .before .last-of .ensures) _ (fit .fits2 .ensures) (read .before .if1 .left) _ (read .volume .ensures) (some .if2 .taken) _ (asked .is-marked .ensures) (c .if3 .taken)
 
-slice-write-seen : tie.Need-slice-write-seen Inv-loop μ-loop
-slice-write-seen c =
-    let read = c .before .before .before in
+mark-requires : tie.Need-mark-requires Inv-loop μ-loop
+mark-requires c κs =
+    let read = c .before .before .before .before .before in
     let fit = read .before .before in
     let turn = fit .before .before in
     let start = turn .before .before .before .before in
@@ -86,7 +88,7 @@ loop-again c =
     let turn = fit .before .before in
     let start = turn .before .before .before .before in
     ⊎-elim
-    (λ w. rw (w .3, w .4) (pass-new _ _ _ _ _ _ _ _ (start .pre) _ _ _ (turn .loop .inv) (fit .before .loop-test .taken) _ (turn .before .last-of .ensures) _ (fit .fits2 .ensures) (read .before .if1 .left) _ (read .volume .ensures) (w .0 .taken) (w .2 .left)))
+    (λ w. rw (w .8 ∙ w .5 .ensures, w .9) (pass-new _ _ _ _ _ _ _ _ (start .pre) _ _ _ (turn .loop .inv) (fit .before .loop-test .taken) _ (turn .before .last-of .ensures) _ (fit .fits2 .ensures) (read .before .if1 .left) _ (read .volume .ensures) (w .0 .taken) _ (w .2 .ensures) (w .3 .left)))
     (λ w. rw (w .1, w .2) (pass-empty _ _ _ _ _ _ _ _ (start .pre) _ _ _ (turn .loop .inv) (fit .before .loop-test .taken) _ (turn .before .last-of .ensures) _ (fit .fits2 .ensures) (read .before .if1 .left) _ (read .volume .ensures) (w .0 .left)))
     (c .if2 .came)
 
@@ -109,10 +111,10 @@ run-sound-spec =
     returns
     volume-requires
     cast-v
-    slice-read-if3
+    is-marked-requires
     same-length-2
     returns-2
-    slice-write-seen
+    mark-requires
     add-empty
     add-p
     loop-less
