@@ -6,9 +6,10 @@
  * - Every call returns. It reads and writes nothing outside the lent slices; a slice of length 0 may be a null pointer.
  * - number 0: the call was carried out; status, count, the tables and the answer are as the rules say.
  * - number 1 to 9: the call was refused; no byte of head, elements or answer has changed, and status and count are 0.
+ * - number 10, of smc_replay alone: a line of the log is at fault. What the lines before it did stays done, and is counted.
  * - CHECK CONDITION (02h) and RESERVATION CONFLICT (18h) change no element, and of the head only the calling host's five bytes.
  * - After a call with any number but 1 the last two bytes of the head are the number of empty storage elements. MOVE and EXCHANGE with GOOD
- *   alone change it.
+ *   alone change it, sent or replayed.
  * - Bytes of the answer past count are as they were. count is above 0 only for GOOD of REQUEST SENSE, READ ELEMENT STATUS
  *   and MODE SENSE.
  * - tags and blank are never written. Sound tables stay sound.
@@ -22,11 +23,11 @@
  * - x86-64 code for the System V calling convention (Linux). Of other symbols it needs memcpy and memset alone.
  * - No slice needs an alignment. It has no state, no heap and no locks: all it knows between two calls is in the tables. Threads may call it
  *   at once on separate tables.
- * - A call takes less than 2.5 KB of stack (2.4 measured). In a program that binds symbols lazily the first call takes about 5.4 KB,
- *   once: the dynamic linker's look-up of memset. Linked with -static or -Wl,-z,now it does not.
+ * - A call takes less than 2.5 KB of stack (2.4 measured), a replay less than 3 (2.8 measured). In a program that binds symbols lazily the
+ *   first call takes about 5.4 KB, once: the dynamic linker's look-up of memset. Linked with -static or -Wl,-z,now it does not.
  * - Every call first checks all tables, in one pass. Measured by the benchmark in tests/: a readiness test takes about 0.1 microseconds at 7
  *   elements and 1.5 at 512; at 512, MOVE, EXCHANGE and MODE SENSE take no more than can be told from that; a whole listing with tags, and a
- *   RESERVE of 32 descriptors that name all 512 elements, the dearest calls, take 3 to 5.
+ *   RESERVE of 32 descriptors that name all 512 elements, the dearest calls, take 3 to 5. A replay checks the tables once, and not once a line.
  */
 #ifndef SMC_H
 #define SMC_H
@@ -39,7 +40,7 @@ extern "C" {
 #endif
 
 /* The interface's version. It rises with each change that moves a layout, lends a further table or adds an entry. */
-#define SMC_INTERFACE 2
+#define SMC_INTERFACE 3
 
 typedef struct {
     uint8_t number;     /* house number, 0 for none */
@@ -48,6 +49,14 @@ typedef struct {
     uint8_t lowest;     /* number 7 alone: the lowest such host */
     uint32_t count;     /* bytes returned in the answer buffer */
 } smc_reply;
+
+/* How a replay ended. 24 bytes on x86-64, returned by value like the reply. */
+typedef struct {
+    uint32_t number;    /* house number: 0, SMC_TABLES_NOT_SOUND or SMC_WRONG_LINE */
+    uint32_t lines;     /* lines applied by this call */
+    size_t place;       /* bytes of the lent log that those lines take: the next line begins there. With SMC_WRONG_LINE, the one at fault. */
+    uint32_t expected;  /* the number expected of that line: the one given plus lines */
+} smc_replayed;
 
 /* House numbers, in the order in which they are tested; SMC_ANSWER_TOO_SHORT comes after the steps of a command. */
 enum {
@@ -59,7 +68,8 @@ enum {
     SMC_NO_IMPORT_EXPORT = 6,   /* the address is no import/export element */
     SMC_REMOVAL_PREVENTED = 7,  /* preventers and lowest say by how many hosts, and the lowest of them */
     SMC_FULL_OR_EMPTY = 8,      /* import: the element is full; export: it is empty */
-    SMC_WRONG_VOLUME = 9        /* the volume number is 0, has no tag, or is in the library already */
+    SMC_WRONG_VOLUME = 9,       /* the volume number is 0, has no tag, or is in the library already */
+    SMC_WRONG_LINE = 10         /* replay: a line is of another form, or has another number than the expected one */
 };
 
 enum { SMC_GOOD = 0x00, SMC_CHECK_CONDITION = 0x02, SMC_RESERVATION_CONFLICT = 0x18 };
@@ -166,6 +176,10 @@ enum { SMC_TRANSPORT = 1, SMC_STORAGE = 2, SMC_IMPORT_EXPORT = 3, SMC_DRIVE = 4 
 #define SMC_MODE_ARM_SIZE 2    /* in the geometry page, for each transport: rotation, member number */
 #define SMC_LARGEST_MODE_ANSWER 255
 
+/* A line of a log, without its line feed. */
+#define SMC_LONGEST_LINE 512
+#define SMC_MOST_LINE_NUMBER 999999999
+
 /* The largest answer: 512 elements in four pages, with tags. */
 #define SMC_LARGEST_ANSWER 26664
 
@@ -247,6 +261,31 @@ smc_reply smc_export(SMC_TABLES, uint32_t address);
 
 /* The unit was reset. Number 1. No reservation, no prevent bit and no sense is left; every host has attention 29h/00h; volumes stay. */
 smc_reply smc_reset(SMC_TABLES);
+
+/* ---- Replay of a recorded log. Numbers 1 and 10. */
+
+/* The calls that a log records, line by line from its start, on the lent tables: the tables at the end are those that the same calls leave, made
+ * one by one. At most `budget` lines are applied; the first must have the number `expected`, the next one more, and so on. The log is text:
+ *
+ *     41<tab>0<tab>01<tab>00100003<line feed>                        import: at address 0010h, volume 3
+ *     42<tab>2<tab>A50000000010100100000000<tab><line feed>          host 2: MOVE MEDIUM from 0010h to 1001h; no parameters
+ *     43<tab>0<tab>02<tab>0010<line feed>                            export: at address 0010h
+ *     44<tab>0<tab>03<tab><line feed>                                reset
+ *
+ * - Four fields parted by single tabs: number (decimal, 1 to 999,999,999, no leading zero), host (one digit, 0 for an event), command block and
+ *   parameter bytes (upper-case hexadecimal, two digits a byte; nothing for none). At most 512 bytes before the line feed.
+ * - number 1: the tables are not sound. It comes first: with an empty log and with budget 0 too. Nothing has changed, lines and place are 0.
+ * - number 10: the line at `place` is of another form, or has another number than `expected` says. A rest without a line feed is of another form.
+ *   The lines before it stay applied and counted: head and elements are as after the line before. Put the line right, and go on from it.
+ * - number 0: so many lines as the budget says were applied, or all of the log. The line behind them was not looked at.
+ * - To go on, lend the log from `place` on, with `expected` as it came back. Two calls, the first of which ended with 0, end as one with the
+ *   sum of their budgets.
+ * - A line that the core refuses by number (an import into a full element, host 9, an empty block) has the form: it changes nothing and
+ *   counts as applied. So does one that ends in CHECK CONDITION or RESERVATION CONFLICT.
+ * - Answers are not kept: no buffer is lent, a listing in the log is not written, and number 5 does not arise. The reply of a line is not kept
+ *   either; with budget 1 the tables can be looked at behind each line (examples/reel.c).
+ * - The tables are checked once a call and not once a line: a long log in few calls is much faster than its calls made one by one. */
+smc_replayed smc_replay(SMC_TABLES, const uint8_t *log, size_t log_len, uint32_t expected, uint32_t budget);
 
 #ifdef __cplusplus
 }

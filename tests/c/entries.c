@@ -12,6 +12,7 @@ _Static_assert(SMC_LARGEST_ANSWER == SMC_LISTING_HEADER_SIZE + SMC_RANGES * SMC_
                    + SMC_MOST_ELEMENTS * SMC_TAGGED_DESCRIPTOR_SIZE, "the largest answer");
 _Static_assert(SMC_LARGEST_MODE_ANSWER == UINT8_MAX, "the largest allocation of MODE SENSE");
 _Static_assert(sizeof(smc_reply) == 8, "the reply");
+_Static_assert(sizeof(smc_replayed) == 24 && offsetof(smc_replayed, place) == 8 && offsetof(smc_replayed, expected) == 16, "what a replay ends with");
 
 #define GUARD 16
 #define CANARY 0xC5
@@ -24,6 +25,7 @@ LENT(elements, 7 * SMC_ELEMENT_SIZE);
 LENT(tags, 3 * SMC_TAG_SIZE);
 LENT(blank, SMC_TAG_SIZE);
 LENT(answer, 512);
+LENT(log_lent, 1024);
 
 static uint8_t head_before[SMC_HEAD_SIZE], elements_before[7 * SMC_ELEMENT_SIZE], answer_before[512];
 static uint8_t tags_before[3 * SMC_TAG_SIZE], blank_before[SMC_TAG_SIZE];
@@ -438,6 +440,150 @@ static void events(void)
     expect(head[21] == 0x29, "export", "attention of the reset overwritten");
 }
 
+/* ---- Document 02, Five. */
+
+static smc_replayed replay(const char *text, size_t length, uint32_t expected, uint32_t budget)
+{
+    guard(log_lent_room, length, 0);
+    memcpy(log_lent, text, length);
+    remember();
+    return smc_replay(TABLES, length ? log_lent : NULL, length, expected, budget);
+}
+
+/* Also what holds of every replay: no canary touched, the log, the labels and the answer as they were. */
+static void replayed(const char *call, smc_replayed told, uint32_t number, uint32_t lines, size_t place, uint32_t expected, const char *text, size_t length)
+{
+    always(call, (smc_reply){0});
+    expect(guarded(log_lent_room, length) && !memcmp(log_lent, text, length), call, "the log, or a byte beside it, changed");
+    expect(told.number == number, call, "another number");
+    expect(told.lines == lines, call, "another count of lines");
+    expect(told.place == place, call, "another place");
+    expect(told.expected == expected, call, "another number expected next");
+}
+
+#define REPLAY(call, text, given, budget, number, lines, place, next) \
+    replayed(call, replay(text, sizeof(text) - 1, given, budget), number, lines, place, next, text, sizeof(text) - 1)
+
+/* 16 bytes, 18, 31, 17 and 31: an import; a readiness test, which host 1 is told of it with; the volume from the mail slot to shelf 1001h; an import of what is there
+ * already, refused by number 9; the volume to the drive. */
+#define IMPORTED "8\t0\t01\t00100003\n"
+#define TOLD "9\t1\t000000000000\t\n"
+#define SHELVED "10\t1\tA50000000010100100000000\t\n"
+#define AGAIN "11\t0\t01\t00100003\n"
+#define LOADED "12\t1\tA50000001001010000000000\t\n"
+
+static void replays(void)
+{
+    static const char day[] = IMPORTED TOLD SHELVED AGAIN LOADED, bad[] = IMPORTED TOLD SHELVED "11\t0\t01\t0010003\n" LOADED;
+    small_library();
+    REPLAY("a day", day, 8, 5, 0, 5, 113, 13);
+    element_is("a day", 2, 3, 0x1001, 0, 0, 0);
+    element_is("a day", 4, 0, 0, 0, 0, 0);
+    sense_is("a day", 1, 0, 0, 0);
+    free_is("a day", 2);
+    small_library();
+    REPLAY("an import", day, 8, 1, 0, 1, 16, 9);
+    element_is("an import", 1, 3, 0, 0, 0, 1);
+    expect(head[21] == 0x28 && head[22] == 0x01 && head[56] == 0x28 && head[57] == 0x01, "an import", "attention");
+    REPLAY("the host is told", TOLD SHELVED, 9, 1, 0, 1, 18, 10);
+    sense_is("the host is told", 1, 6, 0x28, 0x01);
+    expect(head[21] == 0 && head[26] == 0x28, "the host is told", "attention");
+    REPLAY("a move", SHELVED AGAIN, 10, 1, 0, 1, 31, 11);
+    element_is("a move", 4, 3, 0, 0, 0, 0);
+    free_is("a move", 1);
+    REPLAY("a refused line", AGAIN LOADED, 11, 1, 0, 1, 17, 12);
+    expect(untouched(), "a refused line", "it changed a byte");
+    REPLAY("the rest", LOADED, 12, 9, 0, 1, 31, 13);
+    element_is("the rest", 2, 3, 0x1001, 0, 0, 0);
+    small_library();
+    REPLAY("a bad line", bad, 8, 9, SMC_WRONG_LINE, 3, 65, 11);
+    element_is("a bad line", 4, 3, 0, 0, 0, 0);
+    free_is("a bad line", 1);
+    REPLAY("a bad line again", "11\t0\t01\t0010003\n" LOADED, 11, 9, SMC_WRONG_LINE, 0, 0, 11);
+    expect(untouched(), "a bad line again", "it changed a byte");
+    REPLAY("going on", AGAIN LOADED, 11, 9, 0, 2, 48, 13);
+    element_is("going on", 2, 3, 0x1001, 0, 0, 0);
+    small_library();
+    REPLAY("up to the bad line", bad, 8, 3, 0, 3, 65, 11);
+    REPLAY("no budget", "x", 7, 0, 0, 0, 0, 7);
+    REPLAY("no log", "", UINT32_MAX, 9, 0, 0, 0, UINT32_MAX);
+    expect(untouched(), "no log", "it changed a byte");
+}
+
+/* Each alone and for number 7: of another form or number, so that nothing changes. */
+static void wrong_lines(void)
+{
+    static const char *const wrong[] = {
+        "\n", "7\n", "7\t1\t000000000000\n", "7\t1\t000000000000\t\t\n", "7 1\t000000000000\t\n", "7\t1\t000000000000\t", "7\t1\t000000000000\t\r\n",
+        "07\t1\t000000000000\t\n", "6\t1\t000000000000\t\n", "8\t1\t000000000000\t\n", "4294967303\t1\t000000000000\t\n",
+        "18446744073709551623\t1\t000000000000\t\n", "\t1\t000000000000\t\n", "+7\t1\t000000000000\t\n", "7\t\t000000000000\t\n",
+        "7\t01\t000000000000\t\n", "7\tA\t000000000000\t\n", "7\t1\t00000000000\t\n", "7\t1\tc0\t\n", "7\t1\tC0\t0a\n", "7\t1\tC0\t0\n", "7\t1\tC0\t0G\n",
+        "7\t0\t\t\n", "7\t0\t04\t\n", "7\t0\t0101\t00100003\n", "7\t0\t01\t0010\n", "7\t0\t02\t00100003\n", "7\t0\t03\t00\n", "7\t1\t0000\xFF\xFF\t\n"};
+    static const char nul[] = "7\t1\t0000\0000000000\t\n";
+    for (size_t i = 0; i < sizeof wrong / sizeof *wrong; i++) {
+        const size_t length = strlen(wrong[i]);
+        small_library();
+        replayed(wrong[i], replay(wrong[i], length, 7, 1), SMC_WRONG_LINE, 0, 0, 7, wrong[i], length);
+        expect(untouched(), wrong[i], "a line of another form changed a byte");
+    }
+    small_library();
+    REPLAY("a NUL", nul, 7, 1, SMC_WRONG_LINE, 0, 0, 7);
+}
+
+/* They have the form, and the core refuses them by number: nothing changes, and each counts. */
+static void refused_lines(void)
+{
+    static const char *const refusals[] = {
+        "7\t9\t000000000000\t\n", "7\t1\t\t\n", "7\t1\t\t00\n", "7\t1\t0000000000\t\n", "7\t1\t000000000000\t00\n", "7\t0\t01\t10000003\n",
+        "7\t0\t01\t00100000\n", "7\t0\t01\t00100004\n", "7\t0\t01\t00100001\n", "7\t0\t02\t0010\n", "7\t0\t02\t1000\n"};
+    for (size_t i = 0; i < sizeof refusals / sizeof *refusals; i++) {
+        const size_t length = strlen(refusals[i]);
+        small_library();
+        replayed(refusals[i], replay(refusals[i], length, 7, 9), 0, 1, length, 8, refusals[i], length);
+        expect(untouched(), refusals[i], "a refused line changed a byte");
+    }
+}
+
+/* 512 bytes before the line feed are a line, 514 are none; with a number of one digit 511 and 513. Host 1 is told of an unknown command. */
+static void longest_lines(void)
+{
+    static const struct {
+        const char *number;
+        size_t bytes;
+        uint32_t given, lines;
+    } rows[] = {{"42", 512, 42, 1}, {"42", 514, 42, 0}, {"7", 511, 7, 1}, {"7", 513, 7, 0}, {"42", 900, 42, 0}};
+    char line[1024];
+    for (size_t i = 0; i < sizeof rows / sizeof *rows; i++) {
+        memset(line, '0', sizeof line);
+        const int front = snprintf(line, sizeof line, "%s\t1\tC0\t", rows[i].number);
+        line[front] = '0';
+        line[rows[i].bytes] = '\n';
+        small_library();
+        replayed("a long line", replay(line, rows[i].bytes + 1, rows[i].given, 1), rows[i].lines ? 0 : SMC_WRONG_LINE, rows[i].lines,
+                 rows[i].lines ? rows[i].bytes + 1 : 0, rows[i].given + rows[i].lines, line, rows[i].bytes + 1);
+        sense_is("a long line", 1, rows[i].lines ? 5 : 0, rows[i].lines ? 0x20 : 0, 0);
+    }
+}
+
+/* Numbers that no line can have are no fault by themselves; a listing and the sense are asked for, and no answer is kept. */
+static void numbers_of_lines(void)
+{
+    small_library();
+    REPLAY("the largest", "999999999\t1\t000000000000\t\n", 999999999, 9, 0, 1, 26, 1000000000);
+    REPLAY("ten digits", "1000000000\t1\t000000000000\t\n", 1000000000, 9, SMC_WRONG_LINE, 0, 0, 1000000000);
+    REPLAY("zero", "0\t1\t000000000000\t\n", 0, 9, SMC_WRONG_LINE, 0, 0, 0);
+    head[SMC_HOST_AT(1)] = 5;
+    head[SMC_HOST_AT(2)] = 5;
+    REPLAY("no answer", "1\t1\tB8100000FFFF00FFFFFF0000\t\n2\t2\t030000001200\t\n", 1, 2, 0, 2, 48, 3);
+    sense_is("no answer", 1, 0, 0, 0);
+    sense_is("no answer", 2, 0, 0, 0);
+    head[SMC_HEAD_UNIT] = 9;
+    REPLAY("not sound", IMPORTED, 8, 1, SMC_TABLES_NOT_SOUND, 0, 0, 8);
+    REPLAY("not sound, no budget", IMPORTED, 8, 0, SMC_TABLES_NOT_SOUND, 0, 0, 8);
+    REPLAY("not sound, no log", "", 8, 1, SMC_TABLES_NOT_SOUND, 0, 0, 8);
+    expect(untouched(), "not sound", "a refusal changed a byte");
+}
+
 /* All slices empty: number 1, by null pointers. */
 static void nothing_lent(void)
 {
@@ -447,6 +593,7 @@ static void nothing_lent(void)
     refused("nothing lent", smc_import(SMC_LEND(&nothing), 1, 1), SMC_TABLES_NOT_SOUND);
     refused("nothing lent", smc_export(SMC_LEND(&nothing), 1), SMC_TABLES_NOT_SOUND);
     refused("nothing lent", smc_reset(SMC_LEND(&nothing)), SMC_TABLES_NOT_SOUND);
+    expect(smc_replay(SMC_LEND(&nothing), NULL, 0, 1, 1).number == SMC_TABLES_NOT_SOUND && untouched(), "nothing lent", "a replay");
 }
 
 int main(void)
@@ -461,6 +608,11 @@ int main(void)
     empty_shelves();
     reservations();
     events();
+    replays();
+    wrong_lines();
+    refused_lines();
+    longest_lines();
+    numbers_of_lines();
     nothing_lent();
     printf("%d passed, %d failed\n", passed, failed);
     return failed != 0;

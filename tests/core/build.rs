@@ -13,7 +13,7 @@ const USUAL: &str = "target/staticlib/libchanger.a";
 const CRATE: &str = "changer";
 const BUILD_IT: &str = "run `rt staticlib changer` in the repository";
 
-const ENTRIES: [&str; 13] = [
+const ENTRIES: [&str; 14] = [
     "smc_command",
     "smc_test_unit_ready",
     "smc_request_sense",
@@ -27,6 +27,7 @@ const ENTRIES: [&str; 13] = [
     "smc_import",
     "smc_export",
     "smc_reset",
+    "smc_replay",
 ];
 
 fn main() {

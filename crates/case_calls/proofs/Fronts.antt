@@ -1,31 +1,15 @@
 -- A call on the fronts of rooms, which are lent and come back. Assumes nothing.
-use Prim.Native.Nat.{ℕ, _-_, _≤_, min}
-use native.Mathlib.Omega.{arith}
+use Prim.Native.Nat.{ℕ, _-_, min}
 use mathlib.Core.Path.{_≡_, _∙_}
-use mathlib.Core.List.{List, [], append-nil}
-use lib.ListN.{length, take, drop, replicate, length-take, length-replicate, drop-of-length-le}
-use lib.Seq.{take-at, take-all}
+use mathlib.Core.List.{List}
+use lib.ListN.{length, take, drop, replicate, length-replicate}
 use borrow.Rule.Slice.PartMut.{putMid, same-len-mid}
 use Rattle.rules.specs.Tables.{Rest, lent}
 use Rattle.order.specs.declared.Reply.{Reply}
 use Rattle.order.specs.Ending.{ended}
-use Rattle.case_rooms.proofs.Clamped.{sides, take-least}
+use Rattle.case_rooms.proofs.Lending.{front, given}
 use Rattle.case_entering.specs.Called.{called}
 use Rattle.case_rooms.specs.Alike.{untouched}
-
--- the front of a room, lent and given back: the code's k bytes are the n that were asked for, or all that there are
-module _ (xs : List ℕ) (n k : ℕ) (e : k ≡ min n (length xs)) where
-  pub front : take (k - 0) (drop 0 xs) ≡ take n xs
-  front = let i : k - 0 ≡ min n (length xs) = omega arith in take-least xs n (k - 0) i
-
-  pub given : (ys : List ℕ) → length ys ≡ length (take (k - 0) (drop 0 xs)) → take n (putMid 0 (k - 0) xs ys) ≡ ys
-  given ys l =
-      let len : length ys ≡ k = omega (arith, length-take (k - 0) xs) in
-      sides n (length xs) (λ h. take-at ys (drop (k - 0) (drop 0 xs)) n (omega arith))
-      (λ h.
-      let none : drop (k - 0) xs ≡ [] = drop-of-length-le xs {i = k - 0} (omega arith) in
-      let long : length ys ≤ n = omega arith in
-      rw (none, append-nil ys) (take-all n ys long))
 
 -- the answer buffer is lent twice: to be filled, and to the core
 module _ (xs : List ℕ) (n k : ℕ) (e : k ≡ min n (length xs)) (filled : List ℕ) (f : filled ≡ replicate (length (take (k - 0) (drop 0 xs))) 0xEE) where

@@ -9,8 +9,8 @@ ghost use lib.ListN.{length, take};
 ghost use Rattle.order.specs.Ending.{ended};
 ghost use Rattle.case_rooms.specs.Parts.{part as partOf, parametersAt};
 ghost use Rattle.case_rooms.specs.Alike.{untouched as untouchedOf};
+ghost use Rattle.case_rooms.specs.Lying.{lying};
 ghost use Rattle.case_entering.specs.Called.{called};
-ghost use Rattle.case_calls.specs.Lying.{lying};
 
 // The call on the parts of the rooms that the state says, with an answer buffer full of EEh.
 fn made(
@@ -71,7 +71,8 @@ pub fn call(state: State, line: Line, room: &mut [u8], block: &[u8]) -> Effect {
         &mut answer,
         block,
     );
-    case_keeping::take_back(state, room, &head, &elements, &answer);
+    case_keeping::take_back(state, room, &head, &elements);
+    case_keeping::take_answer(state, room, &answer);
     let finding = case_keeping::past(case_rooms::part(&answer, 0, state.buffer), reply.count);
     Effect {
         state: case_keeping::after(state, line.word, reply),

@@ -2,6 +2,8 @@
 use case_rooms::Difference;
 use case_rooms::Effect;
 use case_rooms::Finding;
+use case_rooms::Log;
+use case_rooms::Replayed;
 use case_rooms::State;
 use case_rooms::parts;
 use case_script::Line;
@@ -35,10 +37,37 @@ pub fn after(state: State, what: u8, reply: Reply) -> State {
         s.parameters = 0;
     }
     s.called = true;
-    s.reply = reply;
-    s.answered = state.buffer;
     let sizes = state.sizes;
     s.kept = sizes;
+    s.replayed = false;
+    s.reply = reply;
+    s.answered = state.buffer;
+    s
+}
+
+// The log behind a replay from the place `from` on: `resume` goes on where it ended.
+fn gone_on(log: Log, from: usize, ended: Replayed) -> Log {
+    let start = case_rooms::least(from, parts::LOG_MOST);
+    let taken = case_rooms::least(ended.place, parts::LOG_MOST);
+    Log {
+        length: log.length,
+        begun: true,
+        at: start + taken,
+        expected: ended.expected,
+    }
+}
+
+// The state after a replay from the place `from` of the log on.
+pub fn after_replay(state: State, from: usize, ended: Replayed) -> State {
+    let mut s = state;
+    let before = state.log;
+    let log = gone_on(before, from, ended);
+    s.log = log;
+    s.called = true;
+    let sizes = state.sizes;
+    s.kept = sizes;
+    s.replayed = true;
+    s.ended = ended;
     s
 }
 
@@ -48,8 +77,8 @@ pub fn keep(room: &mut [u8], head: &[u8], elements: &[u8]) {
     case_rooms::write(room, parts::KEPT_ELEMENTS_AT, elements);
 }
 
-// What a call left.
-pub fn take_back(state: State, room: &mut [u8], head: &[u8], elements: &[u8], answer: &[u8]) {
+// Head and elements as a call left them.
+pub fn take_back(state: State, room: &mut [u8], head: &[u8], elements: &[u8]) {
     case_rooms::write(
         room,
         parts::HEAD_AT,
@@ -60,6 +89,10 @@ pub fn take_back(state: State, room: &mut [u8], head: &[u8], elements: &[u8], an
         parts::ELEMENTS_AT,
         case_rooms::part(elements, 0, case_rooms::length_of(state, parts::ELEMENTS)),
     );
+}
+
+// The answer buffer as a call left it.
+pub fn take_answer(state: State, room: &mut [u8], answer: &[u8]) {
     case_rooms::write(
         room,
         parts::ANSWER_AT,
@@ -93,10 +126,35 @@ fn parameters(state: State, room: &mut [u8], bytes: &[u8]) -> Effect {
     case_rooms::done(s)
 }
 
+// "appends TEXT and a line feed to the case's log"; a line feed is the last of the bytes where the line has one
+fn log(state: State, room: &mut [u8], bytes: &[u8]) -> Effect {
+    let before = state.log;
+    let end = case_rooms::least(before.length, parts::LOG_MOST);
+    if parts::LOG_MOST - end < bytes.len() {
+        return case_rooms::refuse(state, fault::TOO_LARGE);
+    }
+    case_rooms::write(room, parts::LOG_AT + end, bytes);
+    let mut s = state;
+    let longer = Log {
+        length: end + bytes.len(),
+        begun: before.begun,
+        at: before.at,
+        expected: before.expected,
+    };
+    s.log = longer;
+    case_rooms::done(s)
+}
+
 // The lines that say what the calls that follow are given.
 pub fn prepare(state: State, line: Line, room: &mut [u8], bytes: &[u8]) -> Effect {
     if line.word == word::PARAMETERS {
         return parameters(state, room, bytes);
+    }
+    if line.word == word::LOG {
+        return log(state, room, bytes);
+    }
+    if line.word == word::LOG_BYTES {
+        return log(state, room, bytes);
     }
     ahead(state, line.word, line.first)
 }

@@ -39,6 +39,9 @@ fn obey(state: State, line: Line, room: &mut [u8], bytes: &[u8]) -> Effect {
     if class == class::CALL {
         return case_calls::call(state, line, room, given);
     }
+    if class == class::REPLAY {
+        return case_replay::replay(state, line, room);
+    }
     Effect {
         state,
         finding: case_trial::judge::judge(state, line, room, given),

@@ -1,5 +1,6 @@
 // What the lines of a file come to, one behind the other. A line that says something has been obeyed when it comes here; it is told.
 use case_rooms::Effect;
+use case_rooms::Finding;
 use case_rooms::State;
 use case_script::Line;
 use case_script::Reading;
@@ -22,9 +23,18 @@ pub fn first(run: Run) -> Progress {
     }
 }
 
+// Whether a line calls the core.
+fn calls(line: Line) -> bool {
+    let class = class::of(line.word);
+    if class == class::CALL {
+        return true;
+    }
+    class == class::REPLAY
+}
+
 // Before a line of a case: a call must find the number of the call before it asked for, and `number` asks for it.
 fn ahead(run: Run, file: &[u8], line: Line) -> Run {
-    if class::of(line.word) == class::CALL {
+    if calls(line) {
         return case_telling::demand(run, case_telling::name(run, file));
     }
     if line.word == word::NUMBER {
@@ -33,11 +43,13 @@ fn ahead(run: Run, file: &[u8], line: Line) -> Run {
     run
 }
 
-// Behind it: a call has ended with a number.
-fn behind(run: Run, line: Line, state: State) -> Run {
-    if class::of(line.word) == class::CALL {
-        let reply = state.reply;
-        return case_telling::owe(run, reply.number);
+// Behind it: a call has ended with a number; a line that can't be obeyed has called nothing.
+fn behind(run: Run, line: Line, state: State, finding: Finding) -> Run {
+    if let Finding::Fault(_) = finding {
+        return run;
+    }
+    if calls(line) {
+        return case_telling::owe(run, case_rooms::number_of(state));
     }
     run
 }
@@ -50,7 +62,7 @@ fn found(run: Run, effect: Effect, path: &[u8], file: &[u8], line: Line, text: &
     let name = case_telling::name(run, file);
     let told = case_telling::told(run, path, name, line, text, finding, limit);
     Progress {
-        run: behind(told, line, state),
+        run: behind(told, line, state, finding),
         state,
     }
 }

@@ -1,3 +1,4 @@
 pub mod Clamped
 pub mod Fronts
 pub mod Comparing
+pub mod Lending

@@ -37,3 +37,6 @@ blankAt = tagsAt + tagSize * 517
 
 abbrev pub parametersAt : ℕ
 parametersAt = blankAt + (tagSize + 28)
+
+abbrev pub logAt : ℕ
+logAt = parametersAt + 1024

@@ -1,4 +1,4 @@
-// What a case has come to, and the room that its tables, parameters and answers stand in.
+// What a case has come to, and the room that its tables, parameters, log and answers stand in.
 pub mod parts;
 
 use order::Reply;
@@ -100,6 +100,22 @@ pub fn untouched(xs: &[u8]) -> usize
     i
 }
 
+// The log of a case: how long it is; and whether it was replayed, where the next `resume` goes on, and with which number.
+pub struct Log {
+    pub length: usize,
+    pub begun: bool,
+    pub at: usize,
+    pub expected: u32,
+}
+
+// What a replay ended with.
+pub struct Replayed {
+    pub number: u32,
+    pub lines: u32,
+    pub place: usize,
+    pub expected: u32,
+}
+
 // What a case has come to; the tables themselves stand in the room.
 pub struct State {
     // how long the tables are, by their numbers
@@ -108,11 +124,15 @@ pub struct State {
     pub host: u32,
     pub buffer: usize,
     pub parameters: usize,
-    // the last call: whether there was one, its reply, its answer buffer's length, and how long the tables were before it
+    pub log: Log,
+    // the last call: whether there was one, and how long the tables were before it
     pub called: bool,
+    pub kept: [usize; parts::TABLES],
+    // of a command or an event, its reply and its answer buffer's length; of a replay, what it ended with
+    pub replayed: bool,
     pub reply: Reply,
     pub answered: usize,
-    pub kept: [usize; parts::TABLES],
+    pub ended: Replayed,
 }
 
 // Where something is not as expected. `what` is the word that asked, but for `kept` that of the table; `at` is the byte, where bytes were compared.
@@ -138,18 +158,41 @@ pub struct Effect {
     pub finding: Finding,
 }
 
-// "Everything is as at the start: no tables, host 1, no parameters, an answer buffer of 26,664 bytes."
+// "Everything is as at the start: no tables, host 1, no parameters, an empty log, an answer buffer of 26,664 bytes."
 pub fn fresh() -> State {
     State {
         sizes: [0; parts::TABLES],
         host: 1,
         buffer: 26664,
         parameters: 0,
+        log: Log {
+            length: 0,
+            begun: false,
+            at: 0,
+            expected: 0,
+        },
         called: false,
+        kept: [0; parts::TABLES],
+        replayed: false,
         reply: order::numbered(0),
         answered: 0,
-        kept: [0; parts::TABLES],
+        ended: Replayed {
+            number: 0,
+            lines: 0,
+            place: 0,
+            expected: 0,
+        },
     }
+}
+
+// The number that the last call ended with.
+pub fn number_of(state: State) -> u32 {
+    if state.replayed {
+        let ended = state.ended;
+        return ended.number;
+    }
+    let reply = state.reply;
+    reply.number as u32
 }
 
 // The length of a table.

@@ -1,4 +1,4 @@
-// The room of a case: its tables, the parameters, the tables as they were before the last call, and the answer, one behind the other.
+// The room of a case: its tables, the parameters, the log, the tables as they were before the last call, and the answer, one behind the other.
 ghost use Prim.Native.Nat.{_≤_};
 ghost use Rattle.case_rooms.specs.Parts.{parametersAt};
 
@@ -24,6 +24,8 @@ pub const BLANK_MOST: usize = layout::TAG_SIZE + 28;
 
 pub const PARAMETERS_MOST: usize = 1024;
 
+pub const LOG_MOST: usize = 4096;
+
 pub const ANSWER_MOST: usize = 32768;
 
 // Where each begins.
@@ -37,7 +39,9 @@ pub const BLANK_AT: usize = TAGS_AT + TAGS_MOST;
 
 pub const PARAMETERS_AT: usize = BLANK_AT + BLANK_MOST;
 
-pub const KEPT_HEAD_AT: usize = PARAMETERS_AT + PARAMETERS_MOST;
+pub const LOG_AT: usize = PARAMETERS_AT + PARAMETERS_MOST;
+
+pub const KEPT_HEAD_AT: usize = LOG_AT + LOG_MOST;
 
 pub const KEPT_ELEMENTS_AT: usize = KEPT_HEAD_AT + HEAD_MOST;
 

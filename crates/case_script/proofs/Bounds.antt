@@ -1,7 +1,7 @@
 -- The places that a reading names lie in the line, and its count in the buffer. Assumes nothing.
 use Prim.Native.Nat.{ℕ, _≤_}
 use native.Mathlib.Omega.{arith}
-use mathlib.Core.Path.{_≡_, ap}
+use mathlib.Core.Path.{_≡_, sym, ap}
 use mathlib.Core.List.{List}
 use lib.ListN.{length, take, length-take}
 use Rattle.rules.proofs.Ladder.{on}
@@ -14,11 +14,13 @@ use Rattle.case_script.specs.declared.Reading.{Reading}
 use Rattle.case_script.specs.declared.Reading.the-variants.{Blank, Says, Fault}
 use Rattle.case_text.specs.Text.{commentAt, wordStart, wordEnd, wordAt}
 use Rattle.case_text.specs.Numbers.{numberOf}
-use Rattle.case_text.specs.Bytes.{given}
+use Rattle.case_text.specs.Bytes.{Given, given}
+use Rattle.case_text.specs.Letters.{written}
 use Rattle.case_text.proofs.Searching.{first-within}
-use Rattle.case_text.proofs.Buffers.{Fits, given-fits}
+use Rattle.case_text.proofs.Buffers.{Fits, given-fits, written-fits}
 use Rattle.case_script.specs.Lines.{saying, bareWord, finished, named, nameRead, tabled, tablesRead, took, takenAt, afterNumber, oneNumber, secondNumber, twoNumbers, Read}
-use Rattle.case_script.specs.Lines.{counted, manyBytes, exactly, bytesAfter, numberAndBytes, shaped, rest, afterSet, setRead, fromWord, textRead, lineRead, Inside}
+use Rattle.case_script.specs.Lines.{counted, filled, manyBytes, behindBlank, logRead, exactly, bytesAfter, numberAndBytes, shaped, rest, afterSet, setRead}
+use Rattle.case_script.specs.Lines.{fromWord, textRead, uncommented, uncommentedRead, lineRead, Inside}
 
 -- a word whose place is in a text of n bytes
 abbrev Placed : ℕ → Line → Type 0
@@ -72,13 +74,21 @@ module _ (s buffer : List ℕ) where
   abbrev Out : Read → Type 0
   Out o = Inside (length s) (length buffer) (o .reading)
 
-  many-in : (at : ℕ) (l : Line) (a : ℕ) → Placed (length s) l → Out (manyBytes s at l a buffer)
-  unfolding manyBytes counted saying
-  many-in at l a p = go (given (length buffer) s at .told) (given-fits (length buffer) s at)
+  filled-in : (g : Given) → Fits (length buffer) (length s) (g .told) → (l : Line) (a : ℕ) → Placed (length s) l → Out (filled l a buffer g)
+  unfolding counted saying
+  filled-in g f l a p = go (g .told) f
     where
       go : (t : Bytes) → Fits (length buffer) (length s) t → Inside (length s) (length buffer) (counted l a t)
       go (Count n) h = (p .0, p .1, h)
       go (Stop why place) h = h
+
+  many-in : (at : ℕ) (l : Line) (a : ℕ) → Placed (length s) l → Out (manyBytes s at l a buffer)
+  unfolding manyBytes
+  many-in at = filled-in (given (length buffer) s at) (given-fits (length buffer) s at)
+
+  log-in : (l : Line) → Placed (length s) l → Out (logRead s l buffer)
+  unfolding logRead
+  log-in l = filled-in (written (length buffer) s (behindBlank s (l .to))) (written-fits (length buffer) s _) l 0
 
   exactly-in : (shape : ℕ) (r : Reading) → Inside (length s) (length buffer) r → Inside (length s) (length buffer) (exactly shape r)
   unfolding exactly
@@ -102,7 +112,8 @@ module _ (s buffer : List ℕ) where
       (λ _. on Out _ (λ _. finished-in s _ (l .to) l 0 0 (p .1) p)
       (λ _. on Out _ (λ _. one-in s _ l p)
       (λ _. on Out _ (λ _. two-in s _ l p)
-      (λ _. on Out _ (λ _. many-in (l .to) l 0 p) (λ _. number-bytes-in _ l p))))))
+      (λ _. on Out _ (λ _. many-in (l .to) l 0 p)
+      (λ _. on Out _ (λ _. log-in l p) (λ _. number-bytes-in _ l p)))))))
 
   set-in : (at : ℕ) → at ≤ length s → Out (setRead s at buffer)
   unfolding setRead afterSet bareWord
@@ -125,12 +136,21 @@ wider n k m Blank h w = tt
 wider n k m (Says l) h w = (w .0, omega arith, w .2)
 wider n k m (Fault why at) h w = omega arith
 
-module _ (line buffer : List ℕ) (end : ℕ) (ends : end ≡ commentAt line) (r : Reading) (l : List ℕ) (is : record { reading = r; bytes = l } ≡ textRead (take end line) buffer) where
+uncommented-in : (n m end : ℕ) (r : Reading) → end ≤ n → Inside n m r → Inside n m (uncommented end n r)
+unfolding uncommented
+uncommented-in n m end Blank h w = w
+uncommented-in n m end (Says l) h w = on (Inside n m) _ (λ _. w) (λ _. on (Inside n m) _ (λ _. h) (λ _. w))
+uncommented-in n m end (Fault why at) h w = w
+
+module _ (line buffer : List ℕ) (end : ℕ) (ends : end ≡ commentAt line) (fits : end ≤ length line) (q : Reading) (l : List ℕ)
+    (is : record { reading = q; bytes = l } ≡ textRead (take end line) buffer) (r : Reading) (held : r ≡ uncommented end (length line) q) where
   pub line-is : record { reading = r; bytes = l } ≡ lineRead line buffer
-  unfolding lineRead
-  line-is = rw ends at is
+  unfolding lineRead uncommentedRead
+  line-is = rw (sym ends) (rw (sym is, held))
 
   pub line-inside : Inside (length line) (length buffer) r
   line-inside =
-      let read : r ≡ textRead (take end line) buffer .reading = ap (λ (o : Read). o .reading) is in
-      rw read (wider (length (take end line)) (length line) (length buffer) (textRead (take end line) buffer .reading) (omega (arith, length-take end line)) (text-in (take end line) buffer))
+      let read : q ≡ textRead (take end line) buffer .reading = ap (λ (o : Read). o .reading) is in
+      rw (held, read)
+      (uncommented-in (length line) (length buffer) end _ fits
+      (wider (length (take end line)) (length line) (length buffer) (textRead (take end line) buffer .reading) (omega (arith, length-take end line)) (text-in (take end line) buffer)))

@@ -7,15 +7,17 @@ use Rattle.rules.specs.Choice.{when, differ}
 use Rattle.rules.specs.Bytes.{put}
 use Rattle.case_text.specs.Text.{letters, blank, break, stops, firstFrom, first, sameWord}
 use Rattle.case_text.specs.Numbers.{digitOf, valueFrom, valueOf, numberOf}
-use Rattle.case_text.specs.Bytes.{byteOf, timesOf, starred, runOf, andThen, givenFrom, given}
+use Rattle.case_text.specs.Bytes.{byteOf, timesOf, starred, runOf, andThen, runsFrom, given}
+use Rattle.case_text.specs.Letters.{letterAt, pairOf, escapeOf, letterOf, letterEnd, written}
 use Rattle.case_script.specs.declared.Reading.the-variants.{Blank, Says, Fault}
 use Rattle.case_script.specs.Names.{names, placeFrom, codeOf, shapeOf, classOf, settable}
 use Rattle.case_script.specs.Lines.{saying, bareWord, finished, named, nameRead, tabled, tablesRead, took, takenAt, afterNumber, oneNumber, secondNumber, twoNumbers, Read}
-use Rattle.case_script.specs.Lines.{counted, manyBytes, wrongCount, exactly, bytesAfter, numberAndBytes, shaped, rest, afterSet, setRead, fromWord, textRead, lineRead}
+use Rattle.case_script.specs.Lines.{counted, manyBytes, behindBlank, logRead, wrongCount, exactly, bytesAfter, numberAndBytes, shaped, rest}
+use Rattle.case_script.specs.Lines.{afterSet, setRead, fromWord, textRead, uncommented, uncommentedRead, lineRead}
 
 -- every definition open, once
 opened : List ℕ → List ℕ → Read
-unfolding when differ put letters blank break stops firstFrom first sameWord digitOf valueFrom valueOf numberOf byteOf timesOf starred runOf andThen givenFrom given names placeFrom codeOf shapeOf classOf settable saying bareWord finished named nameRead tabled tablesRead took takenAt afterNumber oneNumber secondNumber twoNumbers counted manyBytes wrongCount exactly bytesAfter numberAndBytes shaped rest afterSet setRead fromWord textRead lineRead
+unfolding when differ put letters blank break stops firstFrom first sameWord digitOf valueFrom valueOf numberOf byteOf timesOf starred runOf andThen runsFrom given letterAt pairOf escapeOf letterOf letterEnd written names placeFrom codeOf shapeOf classOf settable saying bareWord finished named nameRead tabled tablesRead took takenAt afterNumber oneNumber secondNumber twoNumbers counted manyBytes behindBlank logRead wrongCount exactly bytesAfter numberAndBytes shaped rest afterSet setRead fromWord textRead uncommented uncommentedRead lineRead
 opened line buffer = lineRead line buffer
 
 -- a line that says a word with its numbers, the count of its bytes and its place
@@ -34,21 +36,38 @@ tables-line : lineRead (letters "tables empty") [] ≡ says false 3 0 0 0 0 6 []
 unfolding opened
 tables-line = refl
 
-command-line : lineRead (letters "command A5 0 01 0a*2 # MOVE") (7 ∷ 7 ∷ 7 ∷ 7 ∷ 7 ∷ 7 ∷ []) ≡ says false 17 0 0 5 0 7 (0xA5 ∷ 0 ∷ 1 ∷ 10 ∷ 10 ∷ 7 ∷ [])
+command-line : lineRead (letters "command A5 0 01 0a*2 # MOVE") (7 ∷ 7 ∷ 7 ∷ 7 ∷ 7 ∷ 7 ∷ []) ≡ says false 19 0 0 5 0 7 (0xA5 ∷ 0 ∷ 1 ∷ 10 ∷ 10 ∷ 7 ∷ [])
 unfolding opened
 command-line = refl
 
-volume-line : lineRead (letters " volume 100h 1") (7 ∷ []) ≡ says false 27 256 1 0 1 7 (7 ∷ [])
+volume-line : lineRead (letters " volume 100h 1") (7 ∷ []) ≡ says false 34 256 1 0 1 7 (7 ∷ [])
 unfolding opened
 volume-line = refl
 
-set-line : lineRead (letters "set sense 1 5/24/00") (7 ∷ 7 ∷ 7 ∷ []) ≡ says true 35 1 0 3 4 9 (5 ∷ 0x24 ∷ 0 ∷ [])
+set-line : lineRead (letters "set sense 1 5/24/00") (7 ∷ 7 ∷ 7 ∷ []) ≡ says true 42 1 0 3 4 9 (5 ∷ 0x24 ∷ 0 ∷ [])
 unfolding opened
 set-line = refl
 
-free-line : lineRead (letters "set free 100h") [] ≡ says true 34 256 0 0 4 8 []
+free-line : lineRead (letters "set free 100h") [] ≡ says true 41 256 0 0 4 8 []
 unfolding opened
 free-line = refl
+
+-- "`\t` stands for a tab, `\xNN` for any byte", and a line feed behind the text
+log-line : lineRead (letters "log 7\\t \\x0a") (7 ∷ 7 ∷ 7 ∷ 7 ∷ 7 ∷ 7 ∷ []) ≡ says false 17 0 0 5 0 3 (55 ∷ 9 ∷ 32 ∷ 10 ∷ 10 ∷ 7 ∷ [])
+unfolding opened
+log-line = refl
+
+empty-log-line : lineRead (letters "log") (7 ∷ []) ≡ says false 17 0 0 1 0 3 (10 ∷ [])
+unfolding opened
+empty-log-line = refl
+
+no-escape-line : lineRead (letters "log 7\\x0") (7 ∷ 7 ∷ []) ≡ faulty 21 5 (55 ∷ 7 ∷ [])
+unfolding opened
+no-escape-line = refl
+
+comment-line : lineRead (letters "log 7#7") (7 ∷ 7 ∷ []) ≡ faulty 22 5 (55 ∷ 10 ∷ [])
+unfolding opened
+comment-line = refl
 
 blank-line : lineRead (letters "  # volume 100h 1") [] ≡ record { reading = Blank; bytes = [] }
 unfolding opened

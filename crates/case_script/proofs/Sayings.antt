@@ -17,10 +17,10 @@ use Rattle.case_script.specs.declared.Reading.the-variants.{Blank, Says,
 use Rattle.case_script.specs.Codes.{unknownWord, leftOver, nameMissing, notSet, notTables}
 use Rattle.case_text.specs.Text.{letters, wordStart, wordEnd, between, sameWord}
 use Rattle.case_text.specs.Numbers.{numberOf}
-use Rattle.case_text.specs.Bytes.{Filled, given, onto}
+use Rattle.case_text.specs.Bytes.{Given, Filled, onto}
 use Rattle.case_script.specs.Names.{lastWord, codeOf, shapeOf, canBeSet}
 use Rattle.case_script.specs.Lines.{saying, bareWord, finished, named, nameRead, tabled, tablesRead, took, takenAt, afterNumber, Read, said}
-use Rattle.case_script.specs.Lines.{counted, manyBytes, exactly, bytesAfter, numberAndBytes, shaped, rest, afterSet, setRead, fromWord, textRead, Within}
+use Rattle.case_script.specs.Lines.{counted, filled, manyBytes, exactly, bytesAfter, numberAndBytes, shaped, rest, afterSet, setRead, fromWord, textRead, Within}
 
 -- ---- the end of a line
 
@@ -92,20 +92,9 @@ module _ (t u : Taken) (is : t ≡ u) (rest : ℕ → ℕ → Reading) where
 
 -- ---- bytes
 
-module _ (s : List ℕ) (at : ℕ) (l : Line) (a : ℕ) (buffer : List ℕ) (t : Bytes) (m : List ℕ)
-    (is : record { told = t; bytes = m } ≡ onto buffer (given (length buffer) s at)) where
-  bytes-are : (y : Bytes) → t ≡ y → record { reading = counted l a y; bytes = m } ≡ manyBytes s at l a buffer
-  unfolding manyBytes
-  bytes-are y e =
-      rw (sym e, ap (λ (x : Filled). x .told) is, ap (λ (x : Filled). x .bytes) is)
-
-  pub bytes-stop : (why place : ℕ) → t ≡ Stop why place → record { reading = Fault why place; bytes = m } ≡ manyBytes s at l a buffer
-  unfolding counted
-  bytes-stop why place e = bytes-are _ e
-
-  pub bytes-said : (n : ℕ) → t ≡ Count n → (x : Line) → x ≡ saying l a 0 n → record { reading = Says x; bytes = m } ≡ manyBytes s at l a buffer
-  unfolding counted
-  bytes-said n e x d = rw d (bytes-are _ e)
+pub given-read : (l : Line) (a : ℕ) (buffer : List ℕ) (g : Given) (t : Bytes) (m : List ℕ) → record { told = t; bytes = m } ≡ onto buffer g
+    → (r : Reading) → r ≡ counted l a t → record { reading = r; bytes = m } ≡ filled l a buffer g
+given-read l a buffer g t m is r e = rw (e, ap (λ (x : Filled). x .told) is, ap (λ (x : Filled). x .bytes) is)
 
 module _ (s : List ℕ) (shape : ℕ) (l : Line) (buffer : List ℕ) (t : Taken) (is : t ≡ takenAt s (l .to)) where
   pub number-none : (why at : ℕ) → t ≡ Missing why at → record { reading = Fault why at; bytes = buffer } ≡ numberAndBytes s shape l buffer

@@ -1,4 +1,4 @@
--- The numbers of the faults in lines; those in numbers and bytes are 2 to 5. Assumes nothing.
+-- The numbers of the faults in lines; those in numbers, bytes and text are 2 to 5 and 21. Assumes nothing.
 use Prim.Native.Nat.{ℕ}
 
 abbrev pub unknownWord : ℕ
@@ -19,6 +19,9 @@ notTables = 9
 abbrev pub wrongByteCount : ℕ
 wrongByteCount = 10
 
+abbrev pub commentInText : ℕ
+commentInText = 22
+
 -- why a line that was read can not be obeyed
 
 abbrev pub noElement : ℕ
@@ -29,3 +32,9 @@ noHost = 12
 
 abbrev pub outside : ℕ
 outside = 13
+
+abbrev pub notReplayed : ℕ
+notReplayed = 23
+
+abbrev pub replayed : ℕ
+replayed = 24

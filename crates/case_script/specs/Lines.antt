@@ -1,5 +1,5 @@
 -- What a line says, or why it can not be read. Assumes nothing.
-use Prim.Native.Nat.{ℕ, _≤_}
+use Prim.Native.Nat.{ℕ, _+_, _≤_}
 use Prim.Native.Char.{code}
 use mathlib.Core.List.{List}
 use mathlib.Core.Bool.{Bool, true, false}
@@ -16,10 +16,12 @@ use Rattle.case_script.specs.declared.Taken.the-variants.{Took, Missing}
 use Rattle.case_script.specs.declared.Line.{Line}
 use Rattle.case_script.specs.declared.Reading.{Reading}
 use Rattle.case_script.specs.declared.Reading.the-variants.{Blank, Says, Fault}
-use Rattle.case_script.specs.Codes.{unknownWord, leftOver, nameMissing, notSet, notTables, wrongByteCount}
+use Rattle.case_script.specs.Words.{LOG}
+use Rattle.case_script.specs.Codes.{unknownWord, leftOver, nameMissing, notSet, notTables, wrongByteCount, commentInText}
 use Rattle.case_text.specs.Text.{letters, commentAt, wordStart, wordEnd, between, wordAt, sameWord}
 use Rattle.case_text.specs.Numbers.{numberOf}
-use Rattle.case_text.specs.Bytes.{given}
+use Rattle.case_text.specs.Bytes.{Given, given}
+use Rattle.case_text.specs.Letters.{written}
 use Rattle.case_script.specs.Names.{codeOf, shapeOf, canBeSet}
 
 -- a line whose word is read: the numbers and the count of bytes that belong to it
@@ -89,10 +91,20 @@ unfoldable pub counted : Line → ℕ → Bytes → Reading
 counted l a (Count n) = Says (saying l a 0 n)
 counted l a (Stop why at) = Fault why at
 
--- bytes up to the end of the line: those that were read stand at the front of the buffer, and the rest of it is as it was
+-- the bytes that were read stand at the front of the buffer, and the rest of it is as it was
+abbrev pub filled : Line → ℕ → List ℕ → Given → Read
+filled l a buffer g = record { reading = counted l a (g .told); bytes = put buffer 0 (g .front) }
+
+-- bytes up to the end of the line
 unfoldable pub manyBytes : List ℕ → ℕ → Line → ℕ → List ℕ → Read
-manyBytes s at l a buffer =
-    record { reading = counted l a (given (length buffer) s at .told); bytes = put buffer 0 (given (length buffer) s at .front) }
+manyBytes s at l a buffer = filled l a buffer (given (length buffer) s at)
+
+-- `log`: "all that stands behind it and one blank", and a line feed
+unfoldable pub behindBlank : List ℕ → ℕ → ℕ
+behindBlank s at = when (ltb at (length s)) (at + 1) at
+
+unfoldable pub logRead : List ℕ → Line → List ℕ → Read
+logRead s l buffer = filled l 0 buffer (written (length buffer) s (behindBlank s (l .to)))
 
 -- "KEY/ASC/ASCQ" and "ASC/ASCQ"; elsewhere "one byte at least"
 unfoldable pub wrongCount : ℕ → ℕ → Bool
@@ -121,7 +133,8 @@ shaped s shape l buffer =
     (when (eqb shape (code "1")) (said buffer (oneNumber s l))
     (when (eqb shape (code "2")) (said buffer (twoNumbers s l))
     (when (eqb shape (code "b")) (manyBytes s (l .to) l 0 buffer)
-    (numberAndBytes s shape l buffer))))))
+    (when (eqb shape (code "x")) (logRead s l buffer)
+    (numberAndBytes s shape l buffer)))))))
 
 unfoldable pub rest : List ℕ → Line → List ℕ → Read
 rest s l buffer = shaped s (shapeOf (l .word)) l buffer
@@ -147,9 +160,18 @@ fromWord s from to buffer =
 unfoldable pub textRead : List ℕ → List ℕ → Read
 textRead s buffer = fromWord s (wordStart s 0) (wordEnd s (wordStart s 0)) buffer
 
+-- "no comment can stand behind `log`": one that begins before the line's end is a fault there
+unfoldable pub uncommented : ℕ → ℕ → Reading → Reading
+uncommented end n Blank = Blank
+uncommented end n (Says l) = when (differ (l .word) LOG) (Says l) (when (ltb end n) (Fault commentInText end) (Says l))
+uncommented end n (Fault why at) = Fault why at
+
 -- what a line says, and what it leaves in a buffer
+unfoldable pub uncommentedRead : ℕ → ℕ → Read → Read
+uncommentedRead end n o = record { reading = uncommented end n (o .reading); bytes = o .bytes }
+
 unfoldable pub lineRead : List ℕ → List ℕ → Read
-lineRead line buffer = textRead (take (commentAt line) line) buffer
+lineRead line buffer = uncommentedRead (commentAt line) (length line) (textRead (take (commentAt line) line) buffer)
 
 -- where a number was taken, the place behind it is in the text
 abbrev pub Within : ℕ → Taken → Type 0

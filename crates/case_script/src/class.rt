@@ -14,13 +14,17 @@ pub const LENGTH: u8 = b'l';
 
 pub const LABEL: u8 = b'v';
 
-// what the calls that follow are given, and the calls
+// what the calls that follow are given, and the calls: of a command or an event, and of a replay
 pub const AHEAD: u8 = b'p';
 
 pub const CALL: u8 = b'k';
 
-// what is expected: of the reply, the answer, an element, the unit, a host's record, a table's bytes, and that all was kept
+pub const REPLAY: u8 = b'g';
+
+// what is expected: of the reply, of a replay's end, the answer, an element, the unit, a host's record, a table's bytes, and that all was kept
 pub const REPLY: u8 = b'y';
+
+pub const REPLAYED: u8 = b'o';
 
 pub const ANSWER: u8 = b'a';
 
@@ -35,16 +39,17 @@ pub const TABLE: u8 = b't';
 pub const KEPT: u8 = b's';
 
 // The number of the last word.
-pub const LAST: u8 = 41;
+pub const LAST: u8 = 48;
 
 // A letter for each number of a word from 0 on.
-const CLASSES: [u8; 42] = *b"\
+const CLASSES: [u8; 49] = *b"\
     ?cwwrrrrlvllll\
-    pppkkkkyyyyya\
+    pppppkkkkgg\
+    yyyyyoooa\
     eeeeeuuuhhtttts";
 
 // Which table a word of the classes `l` and `t` speaks of, and which range one of the class `r`, from 0 on.
-const WHICH: [u8; 42] = [
+const WHICH: [u8; 49] = [
     0,
     0,
     0,
@@ -59,6 +64,13 @@ const WHICH: [u8; 42] = [
     1,
     2,
     3,
+    0,
+    0,
+    0,
+    0,
+    0,
+    0,
+    0,
     0,
     0,
     0,

@@ -39,3 +39,14 @@ pub const ABOVE_WORD: u8 = 18;
 pub const NAME_CUT: u8 = 19;
 
 pub const NAME_TWICE: u8 = 20;
+
+pub const NO_ESCAPE: u8 = case_text::fault::NO_ESCAPE;
+
+pub const COMMENT_IN_TEXT: u8 = 22;
+
+// What is asked for is of another kind of call than the last, and what goes on has not begun.
+pub const NOT_REPLAYED: u8 = 23;
+
+pub const REPLAYED: u8 = 24;
+
+pub const NO_REPLAY: u8 = 25;

@@ -16,7 +16,8 @@ ghost use Prim.Native.Nat.{_≤_};
 ghost use lib.ListN.{length};
 ghost use Rattle.case_script.specs.Names.{lastWord};
 ghost use Rattle.case_script.specs.Lines.{saying, bareWord, finished, nameRead, tablesRead, takenAt, Within, oneNumber, secondNumber, twoNumbers};
-ghost use Rattle.case_script.specs.Lines.{manyBytes, wrongCount, exactly, numberAndBytes, rest, setRead, textRead, lineRead, Inside};
+ghost use Rattle.case_script.specs.Lines.{counted as countedOf, manyBytes, behindBlank, logRead, wrongCount, exactly, numberAndBytes, rest};
+ghost use Rattle.case_script.specs.Lines.{setRead, textRead, uncommented as uncommentedOf, lineRead, Inside};
 
 // What a line says. The bytes that it gives stand at the front of the buffer.
 pub struct Line {
@@ -53,7 +54,26 @@ pub fn read_line(line: &[u8], bytes: &mut [u8]) -> Reading
     ensures { λ r. ⌜ Inside (length (now (line .entry))) (length (now (bytes .entry))) r ⌝ }
 {
     let end = find(line, 0, HASH);
-    read_text(&line[..end], bytes)
+    uncommented(end, line.len(), read_text(&line[..end], bytes))
+}
+
+// A comment behind a text would be taken for a part of it, or a part of it for a comment: "no comment can stand behind `log`".
+fn uncommented(end: usize, n: usize, reading: Reading) -> Reading
+    ensures { λ r. ⌜ r ≡ uncommentedOf end n reading ⌝ }
+{
+    match reading {
+        Reading::Blank => Reading::Blank,
+        Reading::Fault(why, at) => Reading::Fault(why, at),
+        Reading::Says(line) => {
+            if line.word != word::LOG {
+                return Reading::Says(line);
+            }
+            if end < n {
+                return Reading::Fault(fault::COMMENT_IN_TEXT, end);
+            }
+            Reading::Says(line)
+        },
+    }
 }
 
 // A line without its comment.
@@ -130,6 +150,9 @@ fn read_rest(text: &[u8], line: Line, bytes: &mut [u8]) -> Reading
     }
     if shape == name::BYTES {
         return read_bytes(text, line.to, line, 0, bytes);
+    }
+    if shape == name::TEXT {
+        return read_log(text, line, bytes);
     }
     read_number_and_bytes(text, shape, line, bytes)
 }
@@ -252,15 +275,40 @@ fn read_second(text: &[u8], at: usize, line: Line, first: u32) -> Reading
     }
 }
 
+// How many bytes belong to a line, or why they can not be read.
+fn counted(line: Line, first: u32, told: Bytes) -> Reading
+    ensures { λ r. ⌜ r ≡ countedOf line first told ⌝ }
+{
+    match told {
+        Bytes::Stop(why, place) => Reading::Fault(why, place),
+        Bytes::Count(count) => Reading::Says(say(line, first, 0, count)),
+    }
+}
+
 // Bytes up to the end of the line.
 fn read_bytes(text: &[u8], at: usize, line: Line, first: u32, bytes: &mut [u8]) -> Reading
     requires { ⌜ at ≤ length (now text) ⌝ }
     ensures { λ r. ⌜ record { reading = r; bytes = now (bytes .exit) } ≡ manyBytes (now (text .entry)) at line first (now (bytes .entry)) ⌝ }
 {
-    match case_text::bytes::all_bytes(text, at, bytes) {
-        Bytes::Stop(why, place) => Reading::Fault(why, place),
-        Bytes::Count(count) => Reading::Says(say(line, first, 0, count)),
+    counted(line, first, case_text::bytes::all_bytes(text, at, bytes))
+}
+
+// Behind the blank at a place, if there is one.
+fn behind_blank(text: &[u8], at: usize) -> usize
+    ensures { λ r. ⌜ r ≡ behindBlank (now (text .entry)) at ⌝ }
+{
+    if at < text.len() {
+        return at + 1;
     }
+    at
+}
+
+// `log`: "all that stands behind it and one blank", and a line feed
+fn read_log(text: &[u8], line: Line, bytes: &mut [u8]) -> Reading
+    ensures { λ r. ⌜ record { reading = r; bytes = now (bytes .exit) } ≡ logRead (now (text .entry)) line (now (bytes .entry)) ⌝ }
+{
+    let from = behind_blank(text, line.to);
+    counted(line, 0, case_text::letters::all_letters(text, from, bytes))
 }
 
 // A word, a number and bytes.

@@ -9,9 +9,10 @@ ghost use Prim.Native.Nat.{_≤_};
 ghost use Rattle.case_script.specs.Names.{lastWord, placeFrom, codeOf, shapeOf, canBeSet, settable as settableOf};
 
 // In the order of their numbers; `#`, which no word holds, has the place of the number that `tables` has a second time.
-const NAMES: [u8; 295] = *b"\
+const NAMES: [u8; 344] = *b"\
     case tables # transport storage port drive volumes label length-head length-elements length-tags length-blank \
-    host buffer parameters command import export reset number status count preventers lowest answer \
+    host buffer parameters log log-bytes command import export reset replay resume \
+    number status count preventers lowest lines place expected answer \
     volume source holder id mark unit mask free sense attention head elements tags blank kept";
 
 // What belongs to a word.
@@ -27,14 +28,17 @@ pub const TWO: u8 = b'2';
 
 pub const BYTES: u8 = b'b';
 
+pub const TEXT: u8 = b'x';
+
 pub const NUMBER_TWO_BYTES: u8 = b'a';
 
 pub const NUMBER_THREE_BYTES: u8 = b's';
 
 // A letter for each number from 0 on; `n` is a number and bytes.
-const SHAPES: [u8; 42] = *b"\
+const SHAPES: [u8; 49] = *b"\
     ?wtt22221n1111\
-    11bb21011111n\
+    11bxbb21021\
+    11111111n\
     22222111sannnn0";
 
 // The number of a word among the first words of a text, from 1 on; 0 where it is none of them.

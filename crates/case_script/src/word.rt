@@ -31,52 +31,66 @@ pub const BUFFER: u8 = 15;
 
 pub const PARAMETERS: u8 = 16;
 
-pub const COMMAND: u8 = 17;
+pub const LOG: u8 = 17;
 
-pub const IMPORT: u8 = 18;
+pub const LOG_BYTES: u8 = 18;
 
-pub const EXPORT: u8 = 19;
+pub const COMMAND: u8 = 19;
 
-pub const RESET: u8 = 20;
+pub const IMPORT: u8 = 20;
 
-pub const NUMBER: u8 = 21;
+pub const EXPORT: u8 = 21;
 
-pub const STATUS: u8 = 22;
+pub const RESET: u8 = 22;
 
-pub const COUNT: u8 = 23;
+pub const REPLAY: u8 = 23;
 
-pub const PREVENTERS: u8 = 24;
+pub const RESUME: u8 = 24;
 
-pub const LOWEST: u8 = 25;
+pub const NUMBER: u8 = 25;
 
-pub const ANSWER: u8 = 26;
+pub const STATUS: u8 = 26;
 
-pub const VOLUME: u8 = 27;
+pub const COUNT: u8 = 27;
 
-pub const SOURCE: u8 = 28;
+pub const PREVENTERS: u8 = 28;
 
-pub const HOLDER: u8 = 29;
+pub const LOWEST: u8 = 29;
 
-pub const ID: u8 = 30;
+pub const LINES: u8 = 30;
 
-pub const MARK: u8 = 31;
+pub const PLACE: u8 = 31;
 
-pub const UNIT: u8 = 32;
+pub const EXPECTED: u8 = 32;
 
-pub const MASK: u8 = 33;
+pub const ANSWER: u8 = 33;
 
-pub const FREE: u8 = 34;
+pub const VOLUME: u8 = 34;
 
-pub const SENSE: u8 = 35;
+pub const SOURCE: u8 = 35;
 
-pub const ATTENTION: u8 = 36;
+pub const HOLDER: u8 = 36;
 
-pub const HEAD: u8 = 37;
+pub const ID: u8 = 37;
 
-pub const ELEMENTS: u8 = 38;
+pub const MARK: u8 = 38;
 
-pub const TAGS: u8 = 39;
+pub const UNIT: u8 = 39;
 
-pub const BLANK: u8 = 40;
+pub const MASK: u8 = 40;
 
-pub const KEPT: u8 = 41;
+pub const FREE: u8 = 41;
+
+pub const SENSE: u8 = 42;
+
+pub const ATTENTION: u8 = 43;
+
+pub const HEAD: u8 = 44;
+
+pub const ELEMENTS: u8 = 45;
+
+pub const TAGS: u8 = 46;
+
+pub const BLANK: u8 = 47;
+
+pub const KEPT: u8 = 48;

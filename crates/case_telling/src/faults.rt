@@ -33,6 +33,12 @@ fn say_reading_fault(why: u8) {
     if why == fault::NOT_TABLES {
         say(b"the tables are `small` or `empty`");
     }
+    if why == fault::NO_ESCAPE {
+        say(b"`\\t` or `\\xNN` is expected here");
+    }
+    if why == fault::COMMENT_IN_TEXT {
+        say(b"no comment can stand behind `log`; `\\x23` stands for `#`");
+    }
 }
 
 // Why a name is none.
@@ -81,6 +87,15 @@ fn say_obeying_fault(why: u8) {
     }
     if why == fault::NO_CALL {
         say(b"nothing has been called yet");
+    }
+    if why == fault::NOT_REPLAYED {
+        say(b"the last call was no replay");
+    }
+    if why == fault::REPLAYED {
+        say(b"the last call was a replay, which has nothing of the kind");
+    }
+    if why == fault::NO_REPLAY {
+        say(b"nothing has been replayed yet");
     }
 }
 

@@ -18,7 +18,7 @@ pub struct Run {
     // the number of its line
     pub first: u64,
     // the number that the last call ended with, until a line asks for it, and the call's line
-    pub owed: u8,
+    pub owed: u32,
     pub owed_line: u64,
     pub compared: bool,
     pub faults: u64,
@@ -151,7 +151,7 @@ pub fn demand(run: Run, name: &[u8]) -> Run {
 }
 
 // A call has ended.
-pub fn owe(run: Run, number: u8) -> Run {
+pub fn owe(run: Run, number: u32) -> Run {
     let mut r = run;
     r.owed = number;
     r.owed_line = r.number;

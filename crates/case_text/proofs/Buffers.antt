@@ -22,7 +22,8 @@ use Rattle.case_text.specs.declared.bytes.Bytes.the-variants.{Count, Sto
 use Rattle.case_text.specs.Codes.{byteExpected, tooManyBytes}
 use Rattle.case_text.specs.Text.{starAt, byteStart, byteEnd, between}
 use Rattle.case_text.specs.Numbers.{valueOf}
-use Rattle.case_text.specs.Bytes.{byteOf, timesOf, starred, runOf, Given, all, andThen, givenFrom, given, Filled, onto}
+use Rattle.case_text.specs.Bytes.{byteOf, timesOf, starred, runOf, Given, all, andThen, runsFrom, given, Filled, onto}
+use Rattle.case_text.specs.Letters.{letterOf, letterEnd, written}
 
 -- ---- one run behind another
 
@@ -95,23 +96,23 @@ put-behind l n ws h =
 
 -- ---- one run behind the bytes that are there
 
-module _ (w : List ℕ) (at : ℕ) (l : List ℕ) (count : ℕ) (h : count ≤ length l) (x : Run) (is : x ≡ runOf w) where
+module _ (at : ℕ) (l : List ℕ) (count : ℕ) (h : count ≤ length l) (x : Run) where
   abbrev after : Filled
-  after = onto l (andThen (length l) at (take count l) (runOf w) all)
+  after = onto l (andThen (length l) at (take count l) x all)
 
   stays : (t : Bytes) → record { told = t; bytes = l } ≡ onto l (record { told = t; front = take count l })
   stays t = ap (λ (b : List ℕ). record { told = t; bytes = b }) (put-front l count h)
 
   pub put-bad : (why : ℕ) → x ≡ NoRun why → record { told = Stop why at; bytes = l } ≡ after
   unfolding andThen
-  put-bad why e = rw (sym is ∙ e) (stays _)
+  put-bad why e = rw e (stays _)
 
   module _ (b n : ℕ) (e : x ≡ Times b n) where
     pub put-many : length l - count < n → record { told = Stop tooManyBytes at; bytes = l } ≡ after
     unfolding andThen
     put-many k =
         let room : length l - length (take count l) < n = rw (length-take-le count l h) k in
-        rw (sym is ∙ e, when-true _ _ _ (lt-ltb _ _ room)) (stays _)
+        rw (e, when-true _ _ _ (lt-ltb _ _ room)) (stays _)
 
     pub put-done : n ≤ length l - count → (m : List ℕ) → m ≡ put l count (replicate n b) → record { told = Count (count + n); bytes = m } ≡ after
     unfolding andThen
@@ -119,7 +120,7 @@ module _ (w : List ℕ) (at : ℕ) (l : List ℕ) (count : ℕ) (h : count ≤ l
         let len : length (take count l) ≡ count = length-take-le count l h in
         let room : n ≤ length l - length (take count l) = rw len k in
         let many : count + n ≡ length (take count l ++ replicate n b) = omega (arith, length-append (take count l) (replicate n b), length-replicate n b) in
-        rw (sym is ∙ e, when-false _ _ _ (le-ltb _ _ room), many, d ∙ put-behind l count (replicate n b) h)
+        rw (e, when-false _ _ _ (le-ltb _ _ room), many, d ∙ put-behind l count (replicate n b) h)
 
 -- what a run does to the bytes so far, whatever follows: it stops them as they are, or it adds to them
 abbrev stopped : List ℕ → ℕ → ℕ → Given
@@ -145,83 +146,108 @@ module _ (room at : ℕ) (front : List ℕ) (rest : List ℕ → Given) (P : Typ
       go true e f g = f tooManyBytes at refl refl
       go false e f g = g (replicate n b) (omega (arith, ltb-false (room - length front) n e, length-replicate n b)) refl refl
 
--- ---- all the bytes of a text: those up to the place `at` are in the buffer, and the rest follows
+-- ---- all the runs of a text, which are w: those up to the place `at` are in the buffer, and the rest follows
 
-pub record Going (s : List ℕ) (from : ℕ) (l : List ℕ) (at count : ℕ) (m : List ℕ) : Type 0 where
+pub record Going (run : ℕ → Run) (next : ℕ → ℕ) (end : ℕ) (w : Given) (l : List ℕ) (at count : ℕ) (m : List ℕ) : Type 0 where
   pub turns : ℕ
-  pub enough : length s ≤ at + turns
+  pub enough : end ≤ at + turns
   pub few : count ≤ length m
   pub long : length m ≡ length l
   pub holds : m ≡ put l 0 (take count m)
-  pub whole : given (length l) s from ≡ givenFrom (length l) s turns at (take count m)
+  pub whole : w ≡ runsFrom run next (length l) end turns at (take count m)
 
-given-end : (room : ℕ) (s : List ℕ) (at : ℕ) (front : List ℕ) → length s ≤ at → (n : ℕ) → givenFrom room s n at front ≡ all front
-unfolding givenFrom
-given-end room s at front h zero = refl
-given-end room s at front h (suc n) = when-true _ _ _ (le-leb _ _ h)
+module _ (run : ℕ → Run) (next : ℕ → ℕ) (end : ℕ) (w : Given) (l : List ℕ) where
+  runs-end : (at : ℕ) (front : List ℕ) → end ≤ at → (n : ℕ) → runsFrom run next (length l) end n at front ≡ all front
+  unfolding runsFrom
+  runs-end at front h zero = refl
+  runs-end at front h (suc n) = when-true _ _ _ (le-leb _ _ h)
 
-given-turn : (room : ℕ) (s : List ℕ) (at : ℕ) (front : List ℕ) → at < length s → (to : ℕ) → to ≡ byteEnd s at → (n : ℕ)
-    → givenFrom room s (suc n) at front ≡ andThen room at front (runOf (between s at to)) (λ more. givenFrom room s n (byteStart s to) more)
-unfolding givenFrom
-given-turn room s at front h to ends n = rw ends (when-false _ _ _ (lt-leb _ _ h))
+  runs-turn : (at : ℕ) (front : List ℕ) → at < end → (n : ℕ)
+      → runsFrom run next (length l) end (suc n) at front ≡ andThen (length l) at front (run at) (λ more. runsFrom run next (length l) end n (next at) more)
+  unfolding runsFrom
+  runs-turn at front h n = when-false _ _ _ (lt-leb _ _ h)
 
-module _ (s : List ℕ) (from : ℕ) (l : List ℕ) where
-  pub going-start : (at : ℕ) → at ≡ byteStart s from → Going s from l at 0 l
-  unfolding given
-  going-start at e =
-      record { turns = length s; enough = omega arith; few = omega arith; long = refl; holds = put-none l 0; whole = rw e }
+  going-start : (at n : ℕ) → end ≤ at + n → w ≡ runsFrom run next (length l) end n at [] → Going run next end w l at 0 l
+  going-start at n h e =
+      record { turns = n; enough = h; few = omega arith; long = refl; holds = put-none l 0; whole = e }
 
-  module _ (at count : ℕ) (m : List ℕ) (g : Going s from l at count m) where
-    pub going-end : length s ≤ at → record { told = Count count; bytes = m } ≡ onto l (given (length l) s from)
-    going-end h = sym (rw (g .whole ∙ given-end (length l) s at (take count m) h (g .turns), length-take-le count m (g .few), sym (g .holds)))
+  module _ (at count : ℕ) (m : List ℕ) (g : Going run next end w l at count m) where
+    pub going-end : end ≤ at → record { told = Count count; bytes = m } ≡ onto l w
+    going-end h = sym (rw (g .whole ∙ runs-end at (take count m) h (g .turns), length-take-le count m (g .few), sym (g .holds)))
 
-    module _ (h : at < length s) (to : ℕ) (ends : to ≡ byteEnd s at) (r : Bytes) (m2 : List ℕ)
-        (is : record { told = r; bytes = m2 } ≡ onto m (andThen (length m) at (take count m) (runOf (between s at to)) all)) where
+    module _ (h : at < end) (x : Run) (stands : x ≡ run at) (r : Bytes) (m2 : List ℕ)
+        (is : record { told = r; bytes = m2 } ≡ onto m (andThen (length m) at (take count m) x all)) where
       abbrev rest : List ℕ → Given
-      rest = λ more. givenFrom (length l) s (g .turns - 1) (byteStart s to) more
+      rest = λ more. runsFrom run next (length l) end (g .turns - 1) (next at) more
 
-      turn : given (length l) s from ≡ andThen (length l) at (take count m) (runOf (between s at to)) rest
+      turn : w ≡ andThen (length l) at (take count m) x rest
       turn =
           let e : g .turns ≡ suc (g .turns - 1) = omega (arith, g .enough) in
           g .whole
-          ∙ ap (λ (k : ℕ). givenFrom (length l) s k at (take count m)) e
-          ∙ given-turn (length l) s at (take count m) h to ends (g .turns - 1)
+          ∙ ap (λ (k : ℕ). runsFrom run next (length l) end k at (take count m)) e
+          ∙ runs-turn at (take count m) h (g .turns - 1)
+          ∙ ap (λ (y : Run). andThen (length l) at (take count m) y rest) (sym stands)
 
-      here : (x : Given) → andThen (length l) at (take count m) (runOf (between s at to)) all ≡ x → record { told = r; bytes = m2 } ≡ onto m x
-      here x e = is ∙ rw (g .long, e)
+      here : (y : Given) → andThen (length l) at (take count m) x all ≡ y → record { told = r; bytes = m2 } ≡ onto m y
+      here y e = is ∙ rw (g .long, e)
 
-      pub going-stop : (why place : ℕ) → r ≡ Stop why place → record { told = Stop why place; bytes = m2 } ≡ onto l (given (length l) s from)
+      pub going-stop : (why place : ℕ) → r ≡ Stop why place → record { told = Stop why place; bytes = m2 } ≡ onto l w
       going-stop why place e =
-          ap (λ (x : Bytes). record { told = x; bytes = m2 }) (sym e)
-          ∙ and-cases (length l) at (take count m) rest (record { told = r; bytes = m2 } ≡ onto l (given (length l) s from)) (runOf (between s at to))
-          (λ w p a b. here _ a ∙ ap (λ (x : List ℕ). record { told = Stop w p; bytes = x }) (sym (put-front m count (g .few)) ∙ g .holds) ∙ ap (onto l) (sym (turn ∙ b)))
-          (λ more k a b. let d : r ≡ Count (length (take count m ++ more)) = ap (λ (x : Filled). x .told) (here _ a) in let y : _≡_ {A = ℕ} 0 1 = cc in absurd (let z : ⊥ = omega arith in z))
+          ap (λ (y : Bytes). record { told = y; bytes = m2 }) (sym e)
+          ∙ and-cases (length l) at (take count m) rest (record { told = r; bytes = m2 } ≡ onto l w) x
+          (λ v p a b. here _ a ∙ ap (λ (y : List ℕ). record { told = Stop v p; bytes = y }) (sym (put-front m count (g .few)) ∙ g .holds) ∙ ap (onto l) (sym (turn ∙ b)))
+          (λ more k a b. let d : r ≡ Count (length (take count m ++ more)) = ap (λ (y : Filled). y .told) (here _ a) in let y : _≡_ {A = ℕ} 0 1 = cc in absurd (let z : ⊥ = omega arith in z))
 
       grown : (more : List ℕ) → put m 0 (take count m ++ more) ≡ put l 0 (take count m ++ more)
       grown more =
           sym (put-append m 0 (take count m) more)
-          ∙ ap (λ (x : List ℕ). put x (0 + length (take count m)) more) (sym (put-front m count (g .few)) ∙ g .holds)
+          ∙ ap (λ (y : List ℕ). put y (0 + length (take count m)) more) (sym (put-front m count (g .few)) ∙ g .holds)
           ∙ put-append l 0 (take count m) more
 
-      pub going-on : (n : ℕ) → r ≡ Count n → (next : ℕ) → next ≡ byteStart s to → at < next → Going s from l next n m2
-      going-on n e next there k =
-          and-cases (length l) at (take count m) rest (Going s from l next n m2) (runOf (between s at to))
-          (λ w p a b. let d : r ≡ Stop w p = ap (λ (x : Filled). x .told) (here _ a) in let y : _≡_ {A = ℕ} 0 1 = cc in absurd (let z : ⊥ = omega arith in z))
+      pub going-on : (n : ℕ) → r ≡ Count n → (behind : ℕ) → behind ≡ next at → at < behind → Going run next end w l behind n m2
+      going-on n e behind there k =
+          and-cases (length l) at (take count m) rest (Going run next end w l behind n m2) x
+          (λ v p a b. let d : r ≡ Stop v p = ap (λ (y : Filled). y .told) (here _ a) in let y : _≡_ {A = ℕ} 0 1 = cc in absurd (let z : ⊥ = omega arith in z))
           (λ more room a b.
-          let d : r ≡ Count (length (take count m ++ more)) = ap (λ (x : Filled). x .told) (here _ a) in
+          let d : r ≡ Count (length (take count m ++ more)) = ap (λ (y : Filled). y .told) (here _ a) in
           let many : length (take count m ++ more) ≡ n = cc in
-          let now : m2 ≡ put m 0 (take count m ++ more) = ap (λ (x : Filled). x .bytes) (here _ a) in
+          let now : m2 ≡ put m 0 (take count m ++ more) = ap (λ (y : Filled). y .bytes) (here _ a) in
           let same : length m2 ≡ length m = ap length now ∙ put-length m 0 (take count m ++ more) in
           let fits : n ≤ length m = omega (arith, length-append (take count m) more, length-take-le count m (g .few), g .long, g .few) in
-          let stands : take n m2 ≡ take count m ++ more = rw now (take-put m (take count m ++ more) n many fits) in
+          let written : take n m2 ≡ take count m ++ more = rw now (take-put m (take count m ++ more) n many fits) in
           record {
             turns = g .turns - 1;
             enough = omega (arith, g .enough);
             few = omega arith;
             long = same ∙ g .long;
-            holds = now ∙ grown more ∙ ap (put l 0) (sym stands);
-            whole = turn ∙ b ∙ rw (stands, there);
+            holds = now ∙ grown more ∙ ap (put l 0) (sym written);
+            whole = turn ∙ b ∙ rw (written, there);
           })
+
+-- the bytes of a text
+
+abbrev pub byteRun : List ℕ → ℕ → Run
+byteRun s at = runOf (between s at (byteEnd s at))
+
+abbrev pub byteNext : List ℕ → ℕ → ℕ
+byteNext s at = byteStart s (byteEnd s at)
+
+pub bytes-start : (s : List ℕ) (from : ℕ) (l : List ℕ) (at : ℕ) → at ≡ byteStart s from → Going (byteRun s) (byteNext s) (length s) (given (length l) s from) l at 0 l
+unfolding given
+bytes-start s from l at e = going-start (byteRun s) (byteNext s) (length s) _ l at (length s) (omega arith) (rw e)
+
+module _ (s : List ℕ) (at to : ℕ) (ends : to ≡ byteEnd s at) where
+  pub byte-run : runOf (between s at to) ≡ byteRun s at
+  byte-run = rw ends
+
+  pub byte-next : (next : ℕ) → next ≡ byteStart s to → next ≡ byteNext s at
+  byte-next next e = rw ends at e
+
+-- the text of a line
+
+pub text-start : (s : List ℕ) (from : ℕ) (l : List ℕ) → Going (letterOf s) (letterEnd s) (length s + 1) (written (length l) s from) l from 0 l
+unfolding written
+text-start s from l = going-start (letterOf s) (letterEnd s) (length s + 1) _ l from (length s + 1) (omega arith) refl
 
 -- ---- the count is within the room, and a fault within the text
 
@@ -237,13 +263,18 @@ and-fits room n at front next h k f (Times b m) =
     on (λ (g : Given). Fits room n (g .told)) (ltb (room - length front) m) (λ _. h)
     (λ t. f (front ++ replicate m b) (omega (arith, ltb-false (room - length front) m t, length-append front (replicate m b), length-replicate m b)))
 
-from-fits : (room : ℕ) (s : List ℕ) (n at : ℕ) (front : List ℕ) → length front ≤ room → Fits room (length s) (givenFrom room s n at front .told)
-unfolding givenFrom
-from-fits room s zero at front k = k
-from-fits room s (suc n) at front k =
-    on (λ (g : Given). Fits room (length s) (g .told)) (leb (length s) at) (λ _. k)
-    (λ t. and-fits room (length s) at front _ (omega (arith, leb-false (length s) at t)) k (λ more j. from-fits room s n _ more j) _)
+runs-fit : (run : ℕ → Run) (next : ℕ → ℕ) (room end last n at : ℕ) (front : List ℕ) → end ≤ suc last → length front ≤ room
+    → Fits room last (runsFrom run next room end n at front .told)
+unfolding runsFrom
+runs-fit run next room end last zero at front e k = k
+runs-fit run next room end last (suc n) at front e k =
+    on (λ (g : Given). Fits room last (g .told)) (leb end at) (λ _. k)
+    (λ t. and-fits room last at front _ (omega (arith, leb-false end at t)) k (λ more j. runs-fit run next room end last n _ more e j) _)
 
 pub given-fits : (room : ℕ) (s : List ℕ) (i : ℕ) → Fits room (length s) (given room s i .told)
 unfolding given
-given-fits room s i = from-fits room s (length s) (byteStart s i) [] (omega arith)
+given-fits room s i = runs-fit _ _ room (length s) (length s) (length s) (byteStart s i) [] (omega arith) (omega arith)
+
+pub written-fits : (room : ℕ) (s : List ℕ) (i : ℕ) → Fits room (length s) (written room s i .told)
+unfolding written
+written-fits room s i = runs-fit _ _ room (length s + 1) (length s) (length s + 1) i [] (omega arith) (omega arith)

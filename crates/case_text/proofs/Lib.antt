@@ -1,3 +1,4 @@
 pub mod Searching
 pub mod Values
 pub mod Buffers
+pub mod Escapes

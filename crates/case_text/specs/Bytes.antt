@@ -54,16 +54,17 @@ andThen room at front (NoRun why) rest = record { told = Stop why at; front = fr
 andThen room at front (Times b n) rest =
     when (ltb (room - length front) n) (record { told = Stop tooManyBytes at; front = front }) (rest (front ++ replicate n b))
 
--- the runs of a text from the place `at` on, at most n of them, behind the bytes so far
-unfoldable pub givenFrom : ℕ → List ℕ → ℕ → ℕ → List ℕ → Given
-givenFrom room s zero at front = all front
-givenFrom room s (suc n) at front =
-    when (leb (length s) at) (all front)
-    (andThen room at front (runOf (between s at (byteEnd s at))) (λ more. givenFrom room s n (byteStart s (byteEnd s at)) more))
+-- what stands at the places of a text before its end: the run at a place, and the place of the next. At most n of them from the place `at` on,
+-- behind the bytes so far
+unfoldable pub runsFrom : (ℕ → Run) → (ℕ → ℕ) → ℕ → ℕ → ℕ → ℕ → List ℕ → Given
+runsFrom run next room end zero at front = all front
+runsFrom run next room end (suc n) at front =
+    when (leb end at) (all front) (andThen room at front (run at) (λ more. runsFrom run next room end n (next at) more))
 
--- all of them: there are no more runs than letters
+-- the bytes of a text: there are no more runs than letters
 unfoldable pub given : ℕ → List ℕ → ℕ → Given
-given room s i = givenFrom room s (length s) (byteStart s i) []
+given room s i =
+    runsFrom (λ at. runOf (between s at (byteEnd s at))) (λ at. byteStart s (byteEnd s at)) room (length s) (length s) (byteStart s i) []
 
 -- what is told of the bytes, and a buffer with the bytes at its front
 pub record Filled : Type 0 where

@@ -1,4 +1,4 @@
--- The numbers of the faults in numbers and bytes. Assumes nothing.
+-- The numbers of the faults in numbers, bytes and text. Assumes nothing.
 use Prim.Native.Nat.{ℕ}
 
 abbrev pub numberExpected : ℕ
@@ -12,3 +12,6 @@ byteExpected = 4
 
 abbrev pub tooManyBytes : ℕ
 tooManyBytes = 5
+
+abbrev pub noEscape : ℕ
+noEscape = 21

@@ -2,3 +2,4 @@ pub mod Text
 pub mod Codes
 pub mod Numbers
 pub mod Bytes
+pub mod Letters

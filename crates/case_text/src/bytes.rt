@@ -97,12 +97,12 @@ fn fill(bytes: &mut [u8], from: usize, b: u8, n: usize)
 }
 
 // One run behind the bytes that are there.
-fn put_run(word: &[u8], at: usize, bytes: &mut [u8], count: usize) -> Bytes
+pub fn put_run(run: Run, at: usize, bytes: &mut [u8], count: usize) -> Bytes
     requires { ⌜ count ≤ length (now bytes) ⌝ }
     ensures { λ r. ⌜ record { told = r; bytes = now (bytes .exit) }
-        ≡ onto (now (bytes .entry)) (andThen (length (now (bytes .entry))) at (take count (now (bytes .entry))) (runOf (now (word .entry))) all) ⌝ }
+        ≡ onto (now (bytes .entry)) (andThen (length (now (bytes .entry))) at (take count (now (bytes .entry))) run all) ⌝ }
 {
-    match one_run(word) {
+    match run {
         Run::NoRun(why) => Bytes::Stop(why, at),
         Run::Times(b, n) => {
             if bytes.len() - count < n {
@@ -124,7 +124,7 @@ pub fn all_bytes(text: &[u8], from: usize, bytes: &mut [u8]) -> Bytes
     let mut at = find(text, from, BYTE);
     while at < text.len() {
         let to = find(text, at + 1, BREAK);
-        match put_run(&text[at..to], at, bytes, count) {
+        match put_run(one_run(&text[at..to]), at, bytes, count) {
             Bytes::Stop(why, place) => {
                 return Bytes::Stop(why, place);
             },

@@ -1,6 +1,7 @@
-// The words of a line: where they begin and end, and the numbers and bytes that they write.
+// The words of a line: where they begin and end, and the numbers, bytes and text that they write.
 pub mod bytes;
 pub mod fault;
+pub mod letters;
 pub mod number;
 
 ghost use mathlib.Core.Path.{_≡_};

@@ -1,6 +1,8 @@
 -- The value that a line asks for, as the rules name it. Assumes nothing.
-use Prim.Native.Nat.{ℕ, _+_, _*_}
+use Prim.Native.Nat.{ℕ, _+_, _*_, min}
+use Prim.Native.Char.{code}
 use mathlib.Core.List.{List}
+use mathlib.Core.Bool.{Bool}
 use lib.ListN.{length}
 use lib.Dec.{eqb, leb, ltb}
 use Rattle.rules.specs.Choice.{when}
@@ -12,13 +14,24 @@ use Rattle.tables.specs.declared.Types.the-variants.{Any}
 use Rattle.tables.specs.declared.Found.{Found}
 use Rattle.tables.specs.declared.Found.the-variants.{At, Nothing}
 use Rattle.tables.specs.LookUp.{found}
-use Rattle.case_script.specs.Words.{NUMBER, STATUS, COUNT, PREVENTERS, VOLUME, SOURCE, HOLDER, ID, UNIT, MASK, SENSE}
-use Rattle.case_script.specs.Codes.{noElement, noHost, outside}
+use Rattle.case_script.specs.Words.{NUMBER, STATUS, COUNT, PREVENTERS, LINES, PLACE, VOLUME, SOURCE, HOLDER, ID, UNIT, MASK, SENSE}
+use Rattle.case_script.specs.Names.{classOf}
+use Rattle.case_script.specs.Codes.{noElement, noHost, outside, notReplayed, replayed}
 use Rattle.case_rooms.specs.Alike.{compared}
 use Rattle.case_trial.specs.declared.judge.Value.{Value}
 use Rattle.case_trial.specs.declared.judge.Value.the-variants.{Is, Missing}
+use Rattle.case_rooms.specs.declared.Replayed.{Replayed}
 use Rattle.case_rooms.specs.declared.Finding.{Finding}
 use Rattle.case_rooms.specs.declared.Finding.the-variants.{Fault}
+
+-- why what a word asks for can not be judged behind a replay, and behind the last call, which was a replay or not; 0 where it can: "a replay has no
+-- status, count, preventers, lowest and answer, and only a replay has lines, place and expected"
+unfoldable pub barredByReplay : ℕ → ℕ
+barredByReplay w =
+    when (eqb w NUMBER) 0 (when (eqb (classOf w) (code "y")) replayed (when (eqb (classOf w) (code "a")) replayed 0))
+
+unfoldable pub barred : Bool → ℕ → ℕ
+barred behindReplay w = when behindReplay (barredByReplay w) (when (eqb (classOf w) (code "o")) notReplayed 0)
 
 -- "the reply of the last call"
 unfoldable pub replied : Reply → ℕ → ℕ
@@ -28,6 +41,14 @@ replied r w =
     (when (eqb w COUNT) (r .count)
     (when (eqb w PREVENTERS) (r .preventers)
     (r .lowest))))
+
+-- "what the last replay ended with"; no number of a line is above 4,294,967,295
+unfoldable pub ended : Replayed → ℕ → ℕ
+ended r w =
+    when (eqb w NUMBER) (r .number)
+    (when (eqb w LINES) (r .lines)
+    (when (eqb w PLACE) (min (r .place) 4294967295)
+    (r .expected)))
 
 -- a field of the element at a place
 unfoldable pub fieldAt : List ℕ → ℕ → ℕ → Value

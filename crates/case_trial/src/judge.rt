@@ -1,6 +1,7 @@
 // What is expected, against what is found.
 use case_rooms::Difference;
 use case_rooms::Finding;
+use case_rooms::Replayed;
 use case_rooms::State;
 use case_rooms::parts;
 use case_script::Line;
@@ -14,9 +15,13 @@ ghost use mathlib.Core.Path.{_≡_};
 ghost use lib.ListN.{length};
 ghost use Rattle.case_rooms.specs.Parts.{part as partOf};
 ghost use Rattle.case_rooms.specs.Alike.{compared, comparedBytes};
-ghost use Rattle.case_trial.specs.Asked.{replied as repliedOf, fieldAt, elementField, unitField, joined as joinedOf, hostRecord, against as againstOf};
+ghost use Rattle.case_trial.specs.Asked.{barredByReplay, barred as barredOf, replied as repliedOf, ended as endedOf, fieldAt, elementField, unitField};
+ghost use Rattle.case_trial.specs.Asked.{joined as joinedOf, hostRecord, against as againstOf};
 
 const HOSTS: u32 = layout::HOSTS as u32;
+
+// The largest number of a line.
+const LARGEST: usize = 4294967295;
 
 // A value that a line asks for, or why there is none.
 pub enum Value {
@@ -95,6 +100,52 @@ fn replied(reply: Reply, what: u8) -> u32
         return reply.preventers as u32;
     }
     reply.lowest as u32
+}
+
+// "what the last replay ended with"
+fn ended(ended: Replayed, what: u8) -> u32
+    ensures { λ r. ⌜ r ≡ endedOf ended what ⌝ }
+{
+    if what == word::NUMBER {
+        return ended.number;
+    }
+    if what == word::LINES {
+        return ended.lines;
+    }
+    if what == word::PLACE {
+        return case_rooms::least(ended.place, LARGEST) as u32;
+    }
+    ended.expected
+}
+
+// Why what a word asks for can not be judged behind a replay; 0 where it can.
+fn barred_by_replay(what: u8) -> u8
+    ensures { λ r. ⌜ r ≡ barredByReplay what ⌝ }
+{
+    if what == word::NUMBER {
+        return 0;
+    }
+    let class = class::of(what);
+    if class == class::REPLY {
+        return fault::REPLAYED;
+    }
+    if class == class::ANSWER {
+        return fault::REPLAYED;
+    }
+    0
+}
+
+// The same behind the last call, which was a replay or not.
+fn barred(replayed: bool, what: u8) -> u8
+    ensures { λ r. ⌜ r ≡ barredOf replayed what ⌝ }
+{
+    if replayed {
+        return barred_by_replay(what);
+    }
+    if class::of(what) == class::REPLAYED {
+        return fault::NOT_REPLAYED;
+    }
+    0
 }
 
 // A field of the element at a place.
@@ -255,15 +306,34 @@ fn of_tables(state: State, line: Line, room: &[u8], expected: &[u8]) -> Finding 
     of_head(line, head, expected)
 }
 
+// The number that a line asks for of what the last call handed back.
+fn handed_back(state: State, what: u8) -> u32 {
+    if state.replayed {
+        return ended(state.ended, what);
+    }
+    replied(state.reply, what)
+}
+
+// Whether a line asks for such a number.
+fn asks_for_one(class: u8) -> bool {
+    if class == class::REPLY {
+        return true;
+    }
+    class == class::REPLAYED
+}
+
 pub fn judge(state: State, line: Line, room: &[u8], expected: &[u8]) -> Finding {
     if !state.called {
         return Finding::Fault(fault::NO_CALL);
     }
     let what = line.word;
+    let why = barred(state.replayed, what);
+    if why != 0 {
+        return Finding::Fault(why);
+    }
     let class = class::of(what);
-    if class == class::REPLY {
-        let reply = state.reply;
-        return compare(what, replied(reply, what), line.first);
+    if asks_for_one(class) {
+        return compare(what, handed_back(state, what), line.first);
     }
     if class == class::ANSWER {
         return bytes_at(

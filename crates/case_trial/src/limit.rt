@@ -14,6 +14,12 @@ fn most(what: u8) -> usize {
     if what == word::PARAMETERS {
         return parts::PARAMETERS_MOST;
     }
+    if what == word::LOG {
+        return parts::LOG_MOST;
+    }
+    if what == word::LOG_BYTES {
+        return parts::LOG_MOST;
+    }
     if class::of(what) == class::RANGE {
         return parts::ELEMENTS_MOST;
     }

@@ -1,11 +1,14 @@
-// The entries that a C front end calls, each one call of `serving`. An entry asks nothing of the values that it is lent:
+// The entries that a C front end calls, each one call of `serving`, and one of `replay`. An entry asks nothing of the values that it is lent:
 // any bytes, any lengths, any numbers. What a caller owes beside (valid slices that do not overlap, one call at a time) stands in include/smc.h.
 use order::Reply;
+use replay::Replayed;
 ghost use mathlib.Core.Path.{_≡_};
 ghost use mathlib.Core.List.{[]};
 ghost use Rattle.rules.specs.Tables.{lent, others};
 ghost use Rattle.rules.specs.Command.{command, import, export, reset};
+ghost use Rattle.rules.specs.Replay.{replay};
 ghost use Rattle.order.specs.Ending.{ended};
+ghost use Rattle.replay.specs.Ended.{ended as endedReplay};
 
 #[no_mangle]
 pub extern "C" fn smc_command<'a>(
@@ -204,4 +207,19 @@ pub extern "C" fn smc_reset<'a>(
     ensures { λ r. ⌜ ended r (lent (now (head .exit)) (now (elements .exit)) (others (now (tags .entry)) (now (blank .entry)))) [] ≡ reset (lent (now (head .entry)) (now (elements .entry)) (others (now (tags .entry)) (now (blank .entry)))) ⌝ }
 {
     serving::event::reset(head, elements, tags, blank)
+}
+
+#[no_mangle]
+pub extern "C" fn smc_replay<'a>(
+    head: &mut [u8],
+    elements: &mut [u8],
+    tags: &'a [u8],
+    blank: &'a [u8],
+    log: &[u8],
+    expected: u32,
+    budget: u32,
+) -> Replayed
+    ensures { λ r. ⌜ endedReplay r (lent (now (head .exit)) (now (elements .exit)) (others (now (tags .entry)) (now (blank .entry)))) ≡ replay (lent (now (head .entry)) (now (elements .entry)) (others (now (tags .entry)) (now (blank .entry)))) (now (log .entry)) expected budget ⌝ }
+{
+    replay::replay(head, elements, tags, blank, log, expected, budget)
 }

@@ -7,9 +7,11 @@ use Rattle.rules.specs.Order.{Outcome}
 use Rattle.rules.specs.Command.{command, import, export, reset}
 use Rattle.rules.specs.Small.{small, moveBlock}
 use Rattle.rules.proofs.Opened.{opened}
+use Rattle.rules.specs.Replay.{Replayed as Ending, replay}
 use Rattle.order.specs.declared.Reply.{Reply}
 use Rattle.order.specs.Ending.{ended, told}
-use Rattle.entries.specs.OnlyOne.{CommandEnds, ImportEnds, ExportEnds, ResetEnds, OnlyOne}
+use Rattle.replay.specs.declared.Replayed.{Replayed}
+use Rattle.entries.specs.OnlyOne.{CommandEnds, ImportEnds, ExportEnds, ResetEnds, OnlyOne, ReplayEnds, OneReplay}
 
 -- the reply that an outcome is told with: all of it but the tables and the buffer
 replyOf : Outcome → Reply
@@ -42,3 +44,19 @@ reset-only-one t = named (reset t)
 p1-answered : (r : Reply) (u : Tables) (buffer : List ℕ) → CommandEnds small 1 (moveBlock 0x1000 0x0100) [] [] r u buffer → r ≡ told 0x00 0
 unfolding opened command replyOf
 p1-answered r u buffer e = ap replyOf e
+
+-- ---- replay
+
+-- what replay hands back of an ending: all of it but the tables
+replayedOf : Ending → Replayed
+replayedOf e = record { number = e .number; lines = e .lines; place = e .place; expected = e .expected }
+
+pub replay-one : (t : Tables) (log : List ℕ) (expected budget : ℕ) → OneReplay (ReplayEnds t log expected budget)
+unfolding replayedOf
+replay-one t log expected budget =
+    let q = replay t log expected budget in
+    record {
+      fits = (replayedOf q, q .tables, refl);
+      same-replayed = λ r s u w d e. ap replayedOf (d ∙ sym e);
+      same-tables = λ r s u w d e. ap (λ (o : Ending). o .tables) (d ∙ sym e);
+    }

@@ -1,9 +1,10 @@
 // No second outcome fits an entry's statement: specs/ states it of what an entry hands back, proofs/ shows it. The functions here call an entry of each kind and
 // meet that statement by the entry's own, so that it is the entry's.
 use order::Reply;
+use replay::Replayed;
 ghost use mathlib.Core.List.{[]};
 ghost use Rattle.rules.specs.Tables.{lent, others};
-ghost use Rattle.entries.specs.OnlyOne.{CommandEnds, ImportEnds, ExportEnds, ResetEnds};
+ghost use Rattle.entries.specs.OnlyOne.{CommandEnds, ImportEnds, ExportEnds, ResetEnds, ReplayEnds};
 
 pub fn command<'a>(
     head: &mut [u8],
@@ -49,4 +50,18 @@ pub fn reset<'a>(head: &mut [u8], elements: &mut [u8], tags: &'a [u8], blank: &'
     ensures { λ r. ⌜ ResetEnds (lent (now (head .entry)) (now (elements .entry)) (others (now (tags .entry)) (now (blank .entry)))) r (lent (now (head .exit)) (now (elements .exit)) (others (now (tags .entry)) (now (blank .entry)))) [] ⌝ }
 {
     changer::smc_reset(head, elements, tags, blank)
+}
+
+pub fn replay<'a>(
+    head: &mut [u8],
+    elements: &mut [u8],
+    tags: &'a [u8],
+    blank: &'a [u8],
+    log: &[u8],
+    expected: u32,
+    budget: u32,
+) -> Replayed
+    ensures { λ r. ⌜ ReplayEnds (lent (now (head .entry)) (now (elements .entry)) (others (now (tags .entry)) (now (blank .entry)))) (now (log .entry)) expected budget r (lent (now (head .exit)) (now (elements .exit)) (others (now (tags .entry)) (now (blank .entry)))) ⌝ }
+{
+    changer::smc_replay(head, elements, tags, blank, log, expected, budget)
 }

@@ -41,7 +41,7 @@ use Rattle.promises.proofs.Panel.{panel-true}
 
 -- ---- a test at every member of a list
 
-every : {A : Type 0} → (A → Bool) → List A → Bool
+unfoldable pub every : {A : Type 0} → (A → Bool) → List A → Bool
 unfolding when
 every f [] = true
 every f (a ∷ l) = when (f a) (every f l) false
@@ -56,13 +56,13 @@ unfolding when
 when-rest true c e = e
 when-rest false c e = cc
 
-at-each : {A : Type 0} (f : A → Bool) (l : List A) → every f l ≡ true → (a : A) → List·Memᴰ a l → f a ≡ true
+pub at-each : {A : Type 0} (f : A → Bool) (l : List A) → every f l ≡ true → (a : A) → List·Memᴰ a l → f a ≡ true
 unfolding every
 at-each f [] e a m = absurd (List·Memᴰ·not-nil m)
 at-each f (b ∷ l) e a m =
     ⊎-elim (λ (i : a ≡ b). rw i (when-first (f b) (every f l) e)) (λ n. at-each f l (when-rest (f b) (every f l) e) a n) (List·Memᴰ·cases-cons m)
 
-small-sound : sound small ≡ true
+pub small-sound : sound small ≡ true
 unfolding opened
 small-sound = refl
 

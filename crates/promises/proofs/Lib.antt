@@ -9,4 +9,6 @@ pub mod Shelves
 pub mod Panel
 pub mod Listings
 pub mod Modes
+pub mod Replays
 pub mod Instances
+pub mod ReplayInstances

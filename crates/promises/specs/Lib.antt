@@ -9,3 +9,4 @@ pub mod Shelves
 pub mod Panel
 pub mod Listings
 pub mod Modes
+pub mod Replays

@@ -13,7 +13,7 @@ use Rattle.rules.specs.Operation.{Operation, ReadElementStatus, READ-ELE
 use Rattle.rules.specs.Order.{Verdict, Number, Prevented, Done, GOOD, check, conflict, outcome, fits}
 use Rattle.rules.specs.Listing.{withTags, chosenBy, listing, readStatus}
 use Rattle.rules.specs.Form.{fault}
-use Rattle.rules.specs.Command.{Request, Command, act, stepsOf, steps, judged, judge, verdict, bufferOf, serve}
+use Rattle.rules.specs.Command.{Request, Command, act, stepsOf, steps, afterNumbers, judged, judge, verdict, bufferOf, serve}
 use Rattle.rules.proofs.Ladder.{on}
 use Rattle.rules.proofs.Walks.{telling, Refusals, refused-by, steps-shown-by}
 
@@ -55,7 +55,7 @@ good-fits buffer (Done s bytes cs) g =
     on (λ (v : Verdict). Good v → v ≡ Done s bytes cs) (leb (length bytes) (length buffer)) (λ _ _. refl) (λ _ e. absurd (omega (arith, e))) g
 
 good-verdict : (t : Tables) (r : Request) → IfGood (operation (r .block)) t r (verdict t (Command r))
-unfolding verdict judge judged steps
+unfolding verdict judge judged afterNumbers steps
 good-verdict t r =
     let op = operation (r .block) in
     let F : Verdict → Type 0 = IfGood op t r in

@@ -15,7 +15,7 @@ use Rattle.rules.specs.Order.{Verdict, Number, Prevented, Done, after, f
 use Rattle.rules.specs.Moves.{noPlace, leave, carry, moveOf, move, exchangeOf, exchange}
 use Rattle.rules.specs.Sense.{requestSense}
 use Rattle.rules.specs.Operation.{Operation, TestUnitReady, RequestSense, Reserve, Release, PreventAllow, MoveMedium, ExchangeMedium, ReadElementStatus, ModeSense, Unknown, operation}
-use Rattle.rules.specs.Command.{Request, act, steps, blockFits, judged}
+use Rattle.rules.specs.Command.{Request, act, steps, blockFits, afterNumbers, judged}
 use Rattle.rules.specs.Histories.{named, namedBy, mixes, joins, Disjoint}
 use Rattle.rules.proofs.Ladder.{on, when-true, never}
 use Rattle.rules.proofs.Walks.{Refusals, telling, refused-by, steps-by, move-by, exchange-by}
@@ -345,7 +345,7 @@ steps-kept t h block list o k m f =
     (steps-by (Kept t h N o k) t h (kept-refusals t h N o k) (operation block) block list (λ _. act-kept (operation block) t h block list o k m))
 
 pub judged-kept : (t : Tables) (r : Request) → mixes (r .block) ≡ true → Keeps (roster (t .head)) (r .host) (named (r .block)) (judged t r)
-unfolding judged Kept
+unfolding judged afterNumbers Kept
 judged-kept t r m =
     let K : Verdict → Type 0 = λ v. Keeps (roster (t .head)) (r .host) (named (r .block)) v in
     on K (within 1 hosts (r .host))

@@ -54,17 +54,33 @@ counted-sound t f e = record { head-fits = f .head-fits; rest-fits = f .rest-fit
 
 -- ---- the head alone changes: ranges and panel stay
 
--- every change of the head is behind the ranges and before the panel's number
-between : (c : HeadChange) (t : Tables) → HeadFit t c → (j : ℕ) → Off unitAt (panelAt - unitAt) j → byte (inHead c (t .head)) j ≡ byte (t .head) j
-unfolding inHead
-between (NewSense h k a q) t f j d = sensed-else (t .head) h k a q j (λ m l e. d (j - unitAt) (omega arith) (omega arith))
-between (NewAttention h a q) t f j d = attended-else (t .head) h a q j (λ m l e. d (j - unitAt) (omega arith) (omega arith))
-between (NewForAll a q) t f j d = announced-else a q (t .head) j (λ h l m n x e. d (j - unitAt) (omega arith) (omega arith))
-between (NewUnit n) t f j d = unitHeld-else (t .head) n j (λ e. d 0 (omega arith) (omega arith))
-between (NewMask m) t f j d = masked-else (t .head) m j (λ e. d 1 (omega arith) (omega arith))
+-- a change of the head for one of the hosts, or for none in particular
+abbrev pub OfSome : HeadChange → Type 0
+OfSome (NewSense h k a q) = (1 ≤ h) × (h ≤ hosts)
+OfSome (NewAttention h a q) = (1 ≤ h) × (h ≤ hosts)
+OfSome (NewForAll a q) = Unit {0}
+OfSome (NewUnit n) = Unit {0}
+OfSome (NewMask m) = Unit {0}
 
-ranges-kept : (c : HeadChange) (t : Tables) → HeadFit t c → SameRanges (t .head) (inHead c (t .head))
-ranges-kept c t f j i = between c t f j (λ m l. omega arith)
+-- as is every change that leaves sound tables sound
+fit-some : (c : HeadChange) (t : Tables) → HeadFit t c → OfSome c
+fit-some (NewSense h k a q) t (l, m, x) = (l, m)
+fit-some (NewAttention h a q) t (l, m, x) = (l, m)
+fit-some (NewForAll a q) t x = tt
+fit-some (NewUnit n) t x = tt
+fit-some (NewMask m) t x = tt
+
+-- what it writes is behind the ranges and before the panel's number
+between : (c : HeadChange) (head : List ℕ) → OfSome c → (j : ℕ) → Off unitAt (panelAt - unitAt) j → byte (inHead c head) j ≡ byte head j
+unfolding inHead
+between (NewSense h k a q) head f j d = sensed-else head h k a q j (λ m l e. d (j - unitAt) (omega arith) (omega arith))
+between (NewAttention h a q) head f j d = attended-else head h a q j (λ m l e. d (j - unitAt) (omega arith) (omega arith))
+between (NewForAll a q) head f j d = announced-else a q head j (λ h l m n x e. d (j - unitAt) (omega arith) (omega arith))
+between (NewUnit n) head f j d = unitHeld-else head n j (λ e. d 0 (omega arith) (omega arith))
+between (NewMask m) head f j d = masked-else head m j (λ e. d 1 (omega arith) (omega arith))
+
+pub ranges-kept : (c : HeadChange) (head : List ℕ) → OfSome c → SameRanges head (inHead c head)
+ranges-kept c head f j i = between c head f j (λ m l. omega arith)
 
 -- who holds the unit changes with NewUnit alone
 unit-kept : (head head′ : List ℕ) → byte head′ unitAt ≡ byte head unitAt → unit head′ ≡ unit head
@@ -84,29 +100,29 @@ head-fitting t head′ s f r u =
 pub head-change-fits : (c : HeadChange) (t : Tables) → HeadFit t c → Fitting t → Fitting (lent (inHead c (t .head)) (t .elements) (t .rest))
 unfolding inHead
 head-change-fits (NewSense h k a q) t (l, m, x) s =
-    head-fitting t _ s (sensed-fits (t .head) h k a q (s .head-fits) l m x) (ranges-kept (NewSense h k a q) t (l, m, x))
+    head-fitting t _ s (sensed-fits (t .head) h k a q (s .head-fits) l m x) (ranges-kept (NewSense h k a q) (t .head) (l, m))
     (sensed-else (t .head) h k a q unitAt (λ n i. omega arith))
 head-change-fits (NewAttention h a q) t (l, m, x) s =
-    head-fitting t _ s (attended-fits (t .head) h a q (s .head-fits) l m x) (ranges-kept (NewAttention h a q) t (l, m, x))
+    head-fitting t _ s (attended-fits (t .head) h a q (s .head-fits) l m x) (ranges-kept (NewAttention h a q) (t .head) (l, m))
     (attended-else (t .head) h a q unitAt (λ n i. omega arith))
 head-change-fits (NewForAll a q) t x s =
-    head-fitting t _ s (announced-fits (t .head) a q (s .head-fits) x) (ranges-kept (NewForAll a q) t x)
+    head-fitting t _ s (announced-fits (t .head) a q (s .head-fits) x) (ranges-kept (NewForAll a q) (t .head) tt)
     (announced-else a q (t .head) unitAt (λ h l m n i. omega arith))
 head-change-fits (NewUnit n) t (l, own) s =
     record {
       head-fits = unitHeld-fits (t .head) n (s .head-fits) l;
       rest-fits = s .rest-fits;
       elements-fit =
-          rw (roster-same (t .head) _ (ranges-kept (NewUnit n) t (l, own)), unitHeld-unit (t .head) n (omega (arith, s .head-fits .length-is)))
+          rw (roster-same (t .head) _ (ranges-kept (NewUnit n) (t .head) tt), unitHeld-unit (t .head) n (omega (arith, s .head-fits .length-is)))
           (unit-fits _ _ _ _ (s .elements-fit) n own);
     }
 head-change-fits (NewMask m) t x s =
-    head-fitting t _ s (masked-fits (t .head) m (s .head-fits)) (ranges-kept (NewMask m) t x) (masked-else (t .head) m unitAt (omega arith))
+    head-fitting t _ s (masked-fits (t .head) m (s .head-fits)) (ranges-kept (NewMask m) (t .head) tt) (masked-else (t .head) m unitAt (omega arith))
 
 head-change-sound : (c : HeadChange) (t : Tables) → HeadFit t c → Sound t → Sound (lent (inHead c (t .head)) (t .elements) (t .rest))
 head-change-sound c t f s =
     counted-sound _ (head-change-fits c t f (sound-fits t s))
-    (rw (roster-same (t .head) _ (ranges-kept c t f)) (panel-same (t .head) _ (λ j l. between c t f j (λ m i. omega arith)) ∙ s .panel-true))
+    (rw (roster-same (t .head) _ (ranges-kept c (t .head) (fit-some c t f))) (panel-same (t .head) _ (λ j l. between c (t .head) (fit-some c t f) j (λ m i. omega arith)) ∙ s .panel-true))
 
 -- ---- the elements alone change: as many shelves are empty
 

@@ -20,7 +20,7 @@ use Rattle.rules.specs.Holds.{holdsFrom, granted, releaseUnit, release, 
 use Rattle.rules.specs.Sense.{requestSense}
 use Rattle.rules.specs.Listing.{readStatus}
 use Rattle.rules.specs.Mode.{modeSense}
-use Rattle.rules.specs.Command.{Request, act, steps, judged}
+use Rattle.rules.specs.Command.{Request, act, steps, afterNumbers, judged}
 use Rattle.rules.proofs.Ladder.{on, either, any-nowhere, all-cons, all-nil, ne-differ}
 use Rattle.rules.proofs.Walks.{Refusals, Passed, Moving, Exchanging, telling, refused-by, steps-by, move-by, exchange-by, reserve-by, release-by}
 use Rattle.rules.proofs.Places.{roster-same}
@@ -226,7 +226,7 @@ fits-sound t buffer (Prevented n h) x = tt
 fits-sound t buffer (Done status bytes cs) x = on (Sounds t) _ (λ _. x) (λ _. tt)
 
 pub judged-sound : (t : Tables) (r : Request) → Sound t → Sounds t (judged t r)
-unfolding judged
+unfolding judged afterNumbers
 judged-sound t r s =
     on (Sounds t) (within 1 hosts (r .host))
     (λ e. on (Sounds t) _

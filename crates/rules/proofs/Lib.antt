@@ -34,3 +34,8 @@ pub mod Rungs
 pub mod Loops
 pub mod Ascending
 pub mod Header
+pub mod Muting
+pub mod Ranged
+pub mod Answerless
+pub mod Replaying
+pub mod Logs

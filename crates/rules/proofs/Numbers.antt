@@ -13,7 +13,7 @@ use Rattle.rules.specs.Tables.{Tables, hosts, mask}
 use Rattle.rules.specs.Sound.{sound, within}
 use Rattle.rules.specs.Order.{Verdict, Number, Prevented, Done, GOOD, outcome, fits, volumeOf}
 use Rattle.rules.specs.Events.{noPort, atPort, wrongVolume, done, importing, exporting, resetting}
-use Rattle.rules.specs.Command.{Request, Call, Command, Import, Export, Reset, blockFits, parametersFit, judged, judge, verdict, bufferOf, serve}
+use Rattle.rules.specs.Command.{Request, Call, Command, Import, Export, Reset, blockFits, parametersFit, afterNumbers, judged, judge, verdict, bufferOf, serve}
 use Rattle.rules.specs.Numbers.{goodBytes, tooShort, conditions, condition, Foremost}
 use Rattle.rules.proofs.Ladder.{on, either, never, when-true, when-false}
 use Rattle.rules.proofs.Untouched.{Stepped, steps-end}
@@ -118,7 +118,7 @@ number-command : (t : Tables) (r : Request)
     ≡ when (not (sound t)) 1
     (when (not (within 1 hosts (r .host))) 2
     (when (not (blockFits (r .block))) 3 (when (not (parametersFit (r .block) (r .parameters))) 4 (when (tooShort t r) 5 0))))
-unfolding numberOf outcome judge judged tooShort
+unfolding numberOf outcome judge judged afterNumbers tooShort
 number-command t r =
     let f : Verdict → ℕ = numberOf t (r .buffer) in
     rung-not f (sound t) _ _ 1 _ refl

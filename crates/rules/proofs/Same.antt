@@ -14,7 +14,7 @@ use Rattle.rules.specs.Moves.{transportUsed, noTransport, noPlace, leave
 use Rattle.rules.specs.Sense.{tellsAttention, requestSense}
 use Rattle.rules.specs.Operation.{Operation, TestUnitReady, RequestSense, Reserve, Release, PreventAllow, MoveMedium, ExchangeMedium, ReadElementStatus, ModeSense, Unknown, operation}
 use Rattle.rules.specs.Form.{ownFault, fault, formed}
-use Rattle.rules.specs.Command.{Request, act, admitted, stepsOf, steps, blockFits, judged}
+use Rattle.rules.specs.Command.{Request, act, admitted, stepsOf, steps, blockFits, afterNumbers, judged}
 use Rattle.rules.specs.Histories.{named, namedBy, mixes, joins}
 use Rattle.rules.proofs.Ladder.{never, when-true, when-false}
 use Rattle.rules.proofs.Local.{OfHost}
@@ -203,7 +203,7 @@ module _ (h : ℕ) (k : h ≤ hosts) (block : List ℕ) (t u : Tables) where
 -- a host that there is not, and a block that does not fit, are refused whatever the tables hold
 pub judged-is : (r : Request) (t u : Tables) → mixes (r .block) ≡ true → Same (r .host) (touched t (r .block)) (named (r .block)) t u
     → judged t r ≡ judged u r
-unfolding judged
+unfolding judged afterNumbers
 judged-is r t u m s = go (within 1 hosts (r .host)) (blockFits (r .block)) refl refl
   where
     go : (a b : Bool) → within 1 hosts (r .host) ≡ a → blockFits (r .block) ≡ b → judged t r ≡ judged u r

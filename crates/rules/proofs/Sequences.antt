@@ -1,4 +1,5 @@
 -- Any sequence of calls ends where the rules, one by one, end; sound tables stay sound all along it. Assumes nothing.
+use Prim.Native.Nat.{ℕ}
 use mathlib.Core.Path.{_≡_, refl, sym, subst}
 use mathlib.Core.Logic.{_≢_, ⊎-elim}
 use mathlib.Core.Bool.{true}
@@ -11,15 +12,16 @@ use Rattle.rules.specs.Histories.{next, run, outcomes, History, begun, c
 use Rattle.rules.proofs.Keeps.{sound-stays}
 use Rattle.rules.proofs.Numbers.{sound-number}
 
--- the tables that an outcome leaves are those that the next call finds
+-- the tables that an outcome leaves are those of its verdict, and those that the next call finds
+pub outcome-leaves : (t : Tables) (buffer : List ℕ) (v : Verdict) → outcome t buffer v .tables ≡ after v t
+unfolding outcome after
+outcome-leaves t buffer (Number n) = refl
+outcome-leaves t buffer (Prevented n h) = refl
+outcome-leaves t buffer (Done status bytes cs) = refl
+
 pub leaves-next : (t : Tables) (c : Call) → serve t c .tables ≡ next t c
 unfolding serve next
-leaves-next t c = go (verdict t c)
-  where
-    go : (v : Verdict) → outcome t (bufferOf c) v .tables ≡ after v t
-    go (Number n) = unfold outcome after in refl
-    go (Prevented n h) = unfold outcome after in refl
-    go (Done status bytes cs) = unfold outcome after in refl
+leaves-next t c = outcome-leaves t (bufferOf c) (verdict t c)
 
 pub history-outcomes : {t u : Tables} {cs : List Call} {os : List Outcome} → History t cs os u → os ≡ outcomes t cs
 unfolding outcomes

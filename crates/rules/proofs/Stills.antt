@@ -18,7 +18,7 @@ use Rattle.rules.specs.Sense.{requestSense}
 use Rattle.rules.specs.Listing.{readStatus}
 use Rattle.rules.specs.Mode.{modeSense}
 use Rattle.rules.specs.Events.{noPort, atPort, done, restartedFrom, resetting}
-use Rattle.rules.specs.Command.{Request, Command, act, steps, judged, judge, verdict}
+use Rattle.rules.specs.Command.{Request, Command, act, steps, afterNumbers, judged, judge, verdict}
 use Rattle.rules.proofs.Ladder.{on, differ-false}
 use Rattle.rules.proofs.Walks.{Refusals, Moving, Exchanging, telling, refused-by, steps-by, move-by, exchange-by, reserve-by, release-by}
 use Rattle.rules.proofs.ElementFields.{HoldsAlone, held-length, held-alone, freed-length, freed-alone}
@@ -140,7 +140,7 @@ module _ (P : Verdict → Type 0) (n : Numbered P) where
   fits-by buffer (Done status bytes cs) p = on P _ (λ _. p) (λ _. n .by-number 5 (omega arith))
 
   pub command-by : Stilled P → (t : Tables) (r : Request) → Filling P t (r .host) → P (verdict t (Command r))
-  unfolding verdict judge judged
+  unfolding verdict judge judged afterNumbers
   command-by s t r f =
       on P _
       (λ _. on P _

@@ -90,15 +90,16 @@ wanted Unknown block n = true
 unfoldable pub parametersFit : List ℕ → List ℕ → Bool
 parametersFit block parameters = wanted (operation block) block (length parameters)
 
+-- house numbers 2 to 4, then the rest
+unfoldable pub afterNumbers : Request → Verdict → Verdict
+afterNumbers r rest =
+    when (within 1 hosts (r .host))
+    (when (blockFits (r .block)) (when (parametersFit (r .block) (r .parameters)) rest (Number 4)) (Number 3))
+    (Number 2)
+
 -- all but number 1
 unfoldable pub judged : Tables → Request → Verdict
-judged t r =
-    when (within 1 hosts (r .host))
-    (when (blockFits (r .block))
-    (when (parametersFit (r .block) (r .parameters)) (fits (r .buffer) (steps t (r .host) (r .block) (r .parameters)))
-    (Number 4))
-    (Number 3))
-    (Number 2)
+judged t r = afterNumbers r (fits (r .buffer) (steps t (r .host) (r .block) (r .parameters)))
 
 unfoldable pub judge : Tables → Request → Verdict
 judge t r = when (sound t) (judged t r) (Number 1)

@@ -16,6 +16,9 @@ pub mod Events
 pub mod Command
 pub mod Numbers
 pub mod Histories
+pub mod Log
+pub mod Replay
+pub mod Muted
 pub mod Shelves
 pub mod Small
 pub mod Cases

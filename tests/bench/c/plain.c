@@ -1,6 +1,6 @@
 /* The rules of the library in plain C, written for speed: what the command core is timed beside. It answers exactly what the core answers.
  * One loop judges the elements and counts the empty shelves; an address is found from the ranges; RESERVE keeps a mark for each place; a move adds
- * to the number of empty shelves and takes from it. */
+ * to the number of empty shelves and takes from it. A replay judges the tables and reads the ranges once, and makes no answer. */
 #include "plain.h"
 #include <stdbool.h>
 #include <string.h>
@@ -27,7 +27,8 @@ typedef struct {
     uint32_t host;
     const uint8_t *block, *parameters;
     uint8_t *answer;
-    size_t parameters_len, answer_len;
+    size_t block_len, parameters_len, answer_len;
+    bool kept; /* the answer is wanted: a replay has no room for one and needs none */
 } request;
 
 static inline unsigned get16(const uint8_t *at) { return (unsigned)at[0] << 8 | at[1]; }
@@ -169,7 +170,7 @@ static inline smc_reply ends(library *l, uint32_t host, uint8_t status, uint8_t 
 static smc_reply request_sense(library *l, const request *q)
 {
     uint8_t *record = l->head + RECORDS + RECORD_BYTES * (q->host - 1), told[18] = {0x70, [7] = 0x0A};
-    unsigned count = min(q->block[4], sizeof told);
+    unsigned count = q->kept ? min(q->block[4], sizeof told) : 0;
     if (q->answer_len < count)
         return refused(SMC_ANSWER_TOO_SHORT);
     if (record[0]) {
@@ -358,6 +359,8 @@ static smc_reply read_element_status(library *l, const request *q)
     range page[4];
     unsigned shown[4];
     uint8_t header[8] = {0}, *out;
+    if (!q->kept)
+        return GOOD;
     for (unsigned r = 0; r < l->filled; r++) {
         range p = l->ranges[r];
         unsigned skipped = start > p.first ? min(start - p.first, p.count) : 0;
@@ -410,26 +413,30 @@ static inline uint8_t *page(uint8_t *out, uint8_t code, const uint8_t *bytes, un
 static smc_reply mode_sense(library *l, const request *q)
 {
     const uint8_t asked = q->block[2];
-    const bool all = asked == SMC_MODE_ALL_PAGES;
-    const unsigned transports = get16(l->head + 2);
+    const bool all = asked == SMC_MODE_ALL_PAGES, by_address = all || asked == SMC_MODE_ADDRESSES, of_arms = all || asked == SMC_MODE_GEOMETRY,
+               of_types = all || asked == SMC_MODE_CAPABILITIES;
+    const unsigned transports = get16(l->head + 2), geometry_bytes = SMC_MODE_ARM_SIZE * transports;
+    const unsigned length = SMC_MODE_HEADER_SIZE + 20 * by_address + (SMC_MODE_PAGE_HEADER_SIZE + geometry_bytes) * of_arms + 20 * of_types;
+    const unsigned count = min(q->block[4], length);
     uint8_t whole[SMC_MODE_HEADER_SIZE + 20 + SMC_MODE_PAGE_HEADER_SIZE + SMC_MODE_ARM_SIZE * MOST_TRANSPORTS + 20];
     uint8_t addresses[18] = {0}, geometry[SMC_MODE_ARM_SIZE * MOST_TRANSPORTS] = {0}, *out = whole + SMC_MODE_HEADER_SIZE;
-    if (all || asked == SMC_MODE_ADDRESSES) {
+    if (length == SMC_MODE_HEADER_SIZE || length > MODE_MOST_BYTES)
+        return INVALID_FIELD;
+    if (!q->kept)
+        return GOOD;
+    if (q->answer_len < count)
+        return refused(SMC_ANSWER_TOO_SHORT);
+    if (by_address) {
         memcpy(addresses, l->head, 16);
         out = page(out, SMC_MODE_ADDRESSES, addresses, sizeof addresses);
     }
-    if (all || asked == SMC_MODE_GEOMETRY) {
+    if (of_arms) {
         for (unsigned member = 0; member < transports; member++)
             geometry[SMC_MODE_ARM_SIZE * member + 1] = (uint8_t)member;
-        out = page(out, SMC_MODE_GEOMETRY, geometry, SMC_MODE_ARM_SIZE * transports);
+        out = page(out, SMC_MODE_GEOMETRY, geometry, geometry_bytes);
     }
-    if (all || asked == SMC_MODE_CAPABILITIES)
-        out = page(out, SMC_MODE_CAPABILITIES, capabilities, sizeof capabilities);
-    const unsigned length = (unsigned)(out - whole), count = min(q->block[4], length);
-    if (length == SMC_MODE_HEADER_SIZE || length > MODE_MOST_BYTES)
-        return INVALID_FIELD;
-    if (q->answer_len < count)
-        return refused(SMC_ANSWER_TOO_SHORT);
+    if (of_types)
+        page(out, SMC_MODE_CAPABILITIES, capabilities, sizeof capabilities);
     memcpy(whole, (uint8_t[SMC_MODE_HEADER_SIZE]){(uint8_t)(length - 1)}, SMC_MODE_HEADER_SIZE);
     if (count > 0)
         memcpy(q->answer, whole, count);
@@ -445,33 +452,31 @@ static inline bool block_fits(const uint8_t *block, size_t length)
     return length > 0 && (lengths[block[0] >> 5] == 0 || lengths[block[0] >> 5] == length);
 }
 
-smc_reply plain_command(SMC_TABLES, SMC_COMMAND)
+/* House numbers 2 to 4, then the steps. */
+static inline smc_reply serve(library *l, const request *q)
 {
-    const request asked = {host, block, parameters, answer, parameters_len, answer_len}, *q = &asked;
-    const uint8_t *b = block;
-    library here, *l = &here;
-    if (!read_tables(l, LENT))
-        return refused(SMC_TABLES_NOT_SOUND);
+    const uint8_t *b = q->block;
+    const uint32_t host = q->host;
     if (host - 1 >= HOSTS)
         return refused(SMC_UNKNOWN_HOST);
-    if (!block_fits(block, block_len))
+    if (!block_fits(b, q->block_len))
         return refused(SMC_BLOCK_LENGTH);
     const uint8_t first = b[0];
     switch (first) {
     case 0x00: case 0x03: case 0x16: case 0x17: case 0x1A: case 0x1E: case 0xA5: case 0xA6: case 0xB8:
-        if (parameters_len != (first == 0x16 ? get16(b + 3) : 0))
+        if (q->parameters_len != (first == 0x16 ? get16(b + 3) : 0))
             return refused(SMC_PARAMETER_LENGTH);
         break;
     default:
         return CHECK(0x20, 0x00);
     }
     if (first != 0x03) {
-        uint8_t *attention = head + RECORDS + RECORD_BYTES * (host - 1) + 3, asc = attention[0], ascq = attention[1];
+        uint8_t *attention = l->head + RECORDS + RECORD_BYTES * (host - 1) + 3, asc = attention[0], ascq = attention[1];
         if (asc) {
             memset(attention, 0, 2);
             return ends(l, host, SMC_CHECK_CONDITION, 6, asc, ascq);
         }
-        if (first != 0x17 && head[UNIT] && head[UNIT] != host)
+        if (first != 0x17 && l->head[UNIT] && l->head[UNIT] != host)
             return CONFLICT;
     }
     switch (first) {
@@ -494,6 +499,13 @@ smc_reply plain_command(SMC_TABLES, SMC_COMMAND)
     default:
         return b[6] | b[10] | b[11] || (b[1] & 0x0F) > 4 ? INVALID_FIELD : read_element_status(l, q);
     }
+}
+
+smc_reply plain_command(SMC_TABLES, SMC_COMMAND)
+{
+    const request asked = {host, block, parameters, answer, block_len, parameters_len, answer_len, true};
+    library here, *l = &here;
+    return read_tables(l, LENT) ? serve(l, &asked) : refused(SMC_TABLES_NOT_SOUND);
 }
 
 /* ---- the events ---- */
@@ -521,19 +533,16 @@ static void tell_hosts(library *l)
             put16(record + 3, 0x2801);
 }
 
-smc_reply plain_import(SMC_TABLES, uint32_t address, uint32_t volume)
+static smc_reply import(library *l, uint32_t address, uint32_t volume)
 {
-    library here, *l = &here;
     smc_reply why;
-    uint8_t *e;
-    if (!read_tables(l, LENT))
-        return refused(SMC_TABLES_NOT_SOUND);
-    if (!(e = port(l, address, false, &why)))
+    uint8_t *e = port(l, address, false, &why);
+    if (!e)
         return why;
     if (volume - 1 >= l->volumes)
         return refused(SMC_WRONG_VOLUME);
     for (unsigned place = 0; place < l->count; place++)
-        if (get16(elements + SMC_ELEMENT_SIZE * place) == volume)
+        if (get16(l->elements + SMC_ELEMENT_SIZE * place) == volume)
             return refused(SMC_WRONG_VOLUME);
     fill(e, volume, 0);
     e[MARK] = 1;
@@ -541,29 +550,125 @@ smc_reply plain_import(SMC_TABLES, uint32_t address, uint32_t volume)
     return why;
 }
 
-smc_reply plain_export(SMC_TABLES, uint32_t address)
+static smc_reply export(library *l, uint32_t address)
 {
-    library here, *l = &here;
     smc_reply why;
-    uint8_t *e;
-    if (!read_tables(l, LENT))
-        return refused(SMC_TABLES_NOT_SOUND);
-    if (!(e = port(l, address, true, &why)))
+    uint8_t *e = port(l, address, true, &why);
+    if (!e)
         return why;
     fill(e, 0, 0);
     tell_hosts(l);
     return why;
 }
 
+static smc_reply reset(library *l)
+{
+    l->head[UNIT] = l->head[MASK] = 0;
+    for (unsigned host = 0; host < HOSTS; host++)
+        memcpy(l->head + RECORDS + RECORD_BYTES * host, (uint8_t[RECORD_BYTES]){0, 0, 0, 0x29, 0x00}, RECORD_BYTES);
+    for (unsigned place = 0; place < l->count; place++)
+        memset(l->elements + SMC_ELEMENT_SIZE * place + HOLDER, 0, 2);
+    return refused(0);
+}
+
+smc_reply plain_import(SMC_TABLES, uint32_t address, uint32_t volume)
+{
+    library here, *l = &here;
+    return read_tables(l, LENT) ? import(l, address, volume) : refused(SMC_TABLES_NOT_SOUND);
+}
+
+smc_reply plain_export(SMC_TABLES, uint32_t address)
+{
+    library here, *l = &here;
+    return read_tables(l, LENT) ? export(l, address) : refused(SMC_TABLES_NOT_SOUND);
+}
+
 smc_reply plain_reset(SMC_TABLES)
 {
     library here, *l = &here;
-    if (!read_tables(l, LENT))
-        return refused(SMC_TABLES_NOT_SOUND);
-    head[UNIT] = head[MASK] = 0;
-    for (unsigned host = 0; host < HOSTS; host++)
-        memcpy(head + RECORDS + RECORD_BYTES * host, (uint8_t[RECORD_BYTES]){0, 0, 0, 0x29, 0x00}, RECORD_BYTES);
-    for (unsigned place = 0; place < l->count; place++)
-        memset(elements + SMC_ELEMENT_SIZE * place + HOLDER, 0, 2);
-    return refused(0);
+    return read_tables(l, LENT) ? reset(l) : refused(SMC_TABLES_NOT_SOUND);
+}
+
+/* ---- replay ---- */
+
+enum { LONGEST_LINE = 512, MOST_DIGITS = 9, DIGIT = 0x10 };
+
+/* The value of a digit, and DIGIT; 0 for what is none. */
+static const uint8_t digits[256] = {
+    ['0'] = 0x10, 0x11, 0x12, 0x13, 0x14, 0x15, 0x16, 0x17, 0x18, 0x19, ['A'] = 0x1A, 0x1B, 0x1C, 0x1D, 0x1E, 0x1F,
+};
+
+/* Bytes from pairs of digits. Goes as far as there are such; at the latest the line's end is none. */
+static inline const uint8_t *decode(const uint8_t *at, uint8_t *out, size_t *count)
+{
+    const uint8_t *const began = out;
+    for (;; at += 2) {
+        const uint8_t high = digits[at[0]];
+        if (!high || !digits[at[1]])
+            break;
+        *out++ = (uint8_t)(high << 4 | (digits[at[1]] & 0x0F));
+    }
+    *count = (size_t)(out - began);
+    return at;
+}
+
+static inline bool happens(library *l, const request *q)
+{
+    const uint8_t *p = q->parameters;
+    if (q->block_len != 1)
+        return false;
+    if (q->block[0] == 1 && q->parameters_len == 4)
+        return import(l, get16(p), get16(p + 2)), true;
+    if (q->block[0] == 2 && q->parameters_len == 2)
+        return export(l, get16(p)), true;
+    if (q->block[0] == 3 && q->parameters_len == 0)
+        return reset(l), true;
+    return false;
+}
+
+/* The line up to its line feed at `end`: whether it has the form and the number, and then what it does. */
+static inline bool apply(library *l, const uint8_t *at, const uint8_t *end, uint32_t expected)
+{
+    uint8_t block[LONGEST_LINE / 2], parameters[LONGEST_LINE / 2];
+    request q = {.block = block, .parameters = parameters, .kept = false};
+    const uint8_t *const number_at = at;
+    uint32_t number = 0;
+    while ((unsigned)*at - '0' < 10 && at < number_at + MOST_DIGITS)
+        number = number * 10 + (*at++ - '0');
+    if (number != expected || number_at[0] == '0' || at == number_at || *at++ != '\t')
+        return false;
+    if ((unsigned)*at - '0' >= 10 || at[1] != '\t')
+        return false;
+    q.host = *at - '0';
+    at = decode(at + 2, block, &q.block_len);
+    if (*at++ != '\t')
+        return false;
+    if (decode(at, parameters, &q.parameters_len) != end)
+        return false;
+    if (q.host == 0)
+        return happens(l, &q);
+    serve(l, &q);
+    return true;
+}
+
+smc_replayed plain_replay(SMC_TABLES, const uint8_t *log, size_t log_len, uint32_t expected, uint32_t budget)
+{
+    library here, *l = &here;
+    smc_replayed told = {.expected = expected};
+    if (!read_tables(l, LENT)) {
+        told.number = SMC_TABLES_NOT_SOUND;
+        return told;
+    }
+    while (told.lines < budget && told.place < log_len) {
+        const size_t left = log_len - told.place;
+        const uint8_t *line = log + told.place, *end = memchr(line, '\n', left > LONGEST_LINE ? LONGEST_LINE + 1 : left);
+        if (!end || !apply(l, line, end, told.expected)) {
+            told.number = SMC_WRONG_LINE;
+            return told;
+        }
+        told.lines++;
+        told.expected++;
+        told.place += (size_t)(end - line) + 1;
+    }
+    return told;
 }

@@ -12,7 +12,7 @@ use reference::{Implementation, Reference, Request, TableBytes};
 const TRANSPORT: u16 = 0x0001;
 const PORT: u16 = 0x0010;
 const DRIVE: u16 = 0x0100;
-const FIRST_SHELF: u16 = 0x1000;
+pub(crate) const FIRST_SHELF: u16 = 0x1000;
 const MOST_DESCRIPTORS: u16 = 32;
 
 /// The small library's addresses with as many shelves as make up the size. Every second shelf is full, and every
@@ -68,12 +68,13 @@ fn command(block: Vec<u8>, parameters: Vec<u8>, answer: usize) -> Call {
     }
 }
 
-fn addresses(first: u8, addresses: [u16; 3]) -> Call {
+/// The block of a MOVE or an EXCHANGE by transport 0.
+pub(crate) fn addresses(first: u8, addresses: [u16; 3]) -> Vec<u8> {
     let fields = addresses.iter().flat_map(|address| address.to_be_bytes());
     let mut block = vec![first, 0, 0, 0];
     block.extend(fields);
     block.extend([0, 0]);
-    command(block, Vec::new(), 0)
+    block
 }
 
 /// All elements by 32 descriptors of equal runs, or by one descriptor for each where there are fewer.
@@ -100,9 +101,10 @@ pub fn rows(elements: u16) -> Vec<Row> {
         vec![command(block, Vec::new(), 26_664)]
     };
     let shelf = |number: u16| FIRST_SHELF + number;
-    let there = addresses(0xA5, [shelf(0), shelf(1), 0]);
-    let back = addresses(0xA5, [shelf(1), shelf(0), 0]);
-    let swap = addresses(0xA6, [shelf(0), shelf(2), shelf(0)]);
+    let carry = |first, places| command(addresses(first, places), Vec::new(), 0);
+    let there = carry(0xA5, [shelf(0), shelf(1), 0]);
+    let back = carry(0xA5, [shelf(1), shelf(0), 0]);
+    let swap = carry(0xA6, [shelf(0), shelf(2), shelf(0)]);
     let sense = command(vec![0x03, 0, 0, 0, 18, 0], Vec::new(), 18);
     let pages = command(mode_block(0, 0x3F, 255), Vec::new(), 255);
     let calls = [
@@ -132,7 +134,8 @@ impl Row {
         for call in three_times {
             let expected = make(&Reference::default(), &tables, call, [0; 16]);
             let found = make(on, &tables, call, [0; 16]);
-            let good = (expected.reply.number, expected.reply.status) == (0, 0);
+            let reply = expected.reply();
+            let good = (reply.number, reply.status) == (0, 0);
             if !good || !differences(&expected, &found).is_empty() {
                 return false;
             }
@@ -158,8 +161,9 @@ impl Row {
     }
 }
 
+/// A command by its entry, with its buffer at the front of the room.
 #[inline(always)]
-fn enter(entries: &Entries, tables: &mut TableBytes, call: &Call, room: &mut [u8]) {
+pub(crate) fn enter(entries: &Entries, tables: &mut TableBytes, call: &Call, room: &mut [u8]) {
     let Call::Command {
         entry,
         host,

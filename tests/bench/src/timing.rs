@@ -37,6 +37,21 @@ pub fn side_by_side(mut one: impl FnMut(u32) -> u32, mut other: impl FnMut(u32) 
     }
 }
 
+/// Seconds of each in each round. The next round begins with the next one.
+pub fn in_turns<const N: usize>(rounds: u32, mut each: [&mut dyn FnMut(u32); N]) -> Vec<[f64; N]> {
+    let timed = |round: u32| {
+        let mut seconds = [0.0; N];
+        for turn in 0..N {
+            let one = (turn + round as usize) % N;
+            let started = Instant::now();
+            each[one](round);
+            seconds[one] = started.elapsed().as_secs_f64();
+        }
+        seconds
+    };
+    (0..rounds).map(timed).collect()
+}
+
 /// How many times fill a sample; finding out warms up, too.
 fn enough(calls: &mut impl FnMut(u32) -> u32) -> u32 {
     let mut times = 1;
@@ -56,7 +71,7 @@ fn sample(calls: &mut impl FnMut(u32) -> u32, times: u32) -> f64 {
     started.elapsed().as_secs_f64() * 1e9 / f64::from(made)
 }
 
-fn median(mut samples: Vec<f64>) -> f64 {
+pub fn median(mut samples: Vec<f64>) -> f64 {
     samples.sort_by(f64::total_cmp);
     samples[samples.len() / 2]
 }

@@ -1,5 +1,6 @@
 //! The plain implementation answers what the reference answers: a faster wrong one would be no measure.
 
+use bench::days::days;
 use bench::plain::plain;
 use bench::rows::rows;
 use core_ffi::EmptySlices;
@@ -38,6 +39,15 @@ fn every_row_ends_good_on_core_and_plain_c() {
                 "{}",
                 row.name
             );
+        }
+    }
+}
+
+#[test]
+fn every_log_ends_alike_on_core_and_plain_c() {
+    for day in days() {
+        for on in [plain, core_ffi::core].map(|on| on(EmptySlices::Pointer)) {
+            assert!(day.agrees(&on, 20_000, 1_000), "{}", day.name);
         }
     }
 }

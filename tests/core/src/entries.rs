@@ -23,12 +23,34 @@ impl From<Reply> for reference::Reply {
     }
 }
 
+/// How a replay ended, as the C interface lays it out.
+#[repr(C)]
+#[derive(Clone, Copy, Debug, Default, PartialEq, Eq)]
+pub struct Replayed {
+    pub number: u32,
+    pub lines: u32,
+    pub place: usize,
+    pub expected: u32,
+}
+
+impl From<Replayed> for reference::Replayed {
+    fn from(replayed: Replayed) -> reference::Replayed {
+        reference::Replayed {
+            number: replayed.number,
+            lines: replayed.lines,
+            place: replayed.place,
+            expected: replayed.expected,
+        }
+    }
+}
+
 /// A pointer and a length for each of head, elements, tags and blank label, and what follows them.
 macro_rules! entry {
-    ($($more:ty),*) => {
+    ($($more:ty),*) => { entry!($($more),* => Reply) };
+    ($($more:ty),* => $returned:ty) => {
         unsafe extern "C" fn(
             *mut u8, usize, *mut u8, usize, *const u8, usize, *const u8, usize, $($more),*
-        ) -> Reply
+        ) -> $returned
     };
 }
 
@@ -39,6 +61,8 @@ pub type ImportEntry = entry!(u32, u32);
 /// Address.
 pub type ExportEntry = entry!(u32);
 pub type ResetEntry = entry!();
+/// Log, expected number, budget.
+pub type ReplayEntry = entry!(*const u8, usize, u32, u32 => Replayed);
 
 /// One implementation of the C interface.
 pub struct Entries {
@@ -47,6 +71,7 @@ pub struct Entries {
     pub import: ImportEntry,
     pub export: ExportEntry,
     pub reset: ResetEntry,
+    pub replay: ReplayEntry,
 }
 
 /// Declares functions in C that take the lent tables and what is given here.
@@ -99,6 +124,7 @@ declare_entries! {
     smc_import(u32, u32) -> Reply;
     smc_export(u32) -> Reply;
     smc_reset() -> Reply;
+    smc_replay(*const u8, usize, u32, u32) -> Replayed;
 }
 
 pub(crate) static CORE: Entries = Entries {
@@ -117,4 +143,5 @@ pub(crate) static CORE: Entries = Entries {
     import: smc_import,
     export: smc_export,
     reset: smc_reset,
+    replay: smc_replay,
 };

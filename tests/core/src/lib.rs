@@ -8,7 +8,9 @@
 mod entries;
 mod linked;
 
-pub use entries::{CommandEntry, Entries, ExportEntry, ImportEntry, Reply, ResetEntry};
+pub use entries::{
+    CommandEntry, Entries, ExportEntry, ImportEntry, ReplayEntry, Replayed, Reply, ResetEntry,
+};
 pub use linked::{EmptySlices, Linked};
 
 /// The command core as the front end calls it.

@@ -5,7 +5,7 @@ use std::ptr::{null, null_mut};
 use reference::{Entry, Implementation, Request, Tables};
 
 use crate::call_entry;
-use crate::entries::{Entries, Reply};
+use crate::entries::{Entries, Replayed, Reply};
 
 /// What is passed for a slice of no bytes.
 #[derive(Clone, Copy, Debug, PartialEq, Eq)]
@@ -59,6 +59,26 @@ impl Entries {
             request.answer.len()
         )
     }
+
+    /// A replay, in line as well.
+    #[inline(always)]
+    pub fn replay(
+        &self,
+        empty: EmptySlices,
+        tables: Tables,
+        log: &[u8],
+        (expected, budget): (u32, u32),
+    ) -> Replayed {
+        call_entry!(
+            self.replay,
+            empty,
+            tables,
+            empty.read(log),
+            log.len(),
+            expected,
+            budget
+        )
+    }
 }
 
 /// Linked code as the front end calls it.
@@ -84,5 +104,16 @@ impl Implementation for Linked {
 
     fn reset(&self, tables: Tables) -> reference::Reply {
         call_entry!(self.entries.reset, self.empty, tables).into()
+    }
+
+    fn replay(
+        &self,
+        tables: Tables,
+        log: &[u8],
+        expected: u32,
+        budget: u32,
+    ) -> reference::Replayed {
+        let asked = (expected, budget);
+        self.entries.replay(self.empty, tables, log, asked).into()
     }
 }

@@ -2,7 +2,7 @@
 
 use std::fmt;
 
-use reference::{Entry, Implementation, Reply, Request, Tables};
+use reference::{Entry, Implementation, Replayed, Reply, Request, Tables};
 
 #[derive(Clone, Debug)]
 pub enum Call {
@@ -22,20 +22,78 @@ pub enum Call {
         address: u32,
     },
     Reset,
+    Replay {
+        log: Vec<u8>,
+        expected: u32,
+        budget: u32,
+    },
 }
 
-impl Call {
-    /// Block and parameters, empty for an event.
-    pub fn lent(&self) -> (&[u8], &[u8]) {
+/// What a call hands back beside the lent bytes.
+#[derive(Clone, Copy, Debug, PartialEq, Eq)]
+pub enum Ending {
+    Replied(Reply),
+    Replayed(Replayed),
+}
+
+impl Ending {
+    pub fn number(&self) -> u32 {
         match self {
-            Call::Command {
-                block, parameters, ..
-            } => (block, parameters),
-            _ => (&[], &[]),
+            Ending::Replied(reply) => reply.number.into(),
+            Ending::Replayed(replayed) => replayed.number,
         }
     }
 
-    /// The answer buffer as it is lent, empty for an event.
+    /// The fields by name.
+    pub fn fields(&self) -> Vec<(&'static str, usize)> {
+        match self {
+            Ending::Replied(reply) => vec![
+                ("number", reply.number.into()),
+                ("status", reply.status.into()),
+                ("preventers", reply.preventers.into()),
+                ("lowest", reply.lowest.into()),
+                ("count", reply.count as usize),
+            ],
+            Ending::Replayed(replayed) => vec![
+                ("number", replayed.number as usize),
+                ("lines", replayed.lines as usize),
+                ("place", replayed.place),
+                ("expected", replayed.expected as usize),
+            ],
+        }
+    }
+}
+
+/// The slices that a call only reads.
+#[derive(Clone, Copy)]
+pub struct Lent<'a> {
+    pub block: &'a [u8],
+    pub parameters: &'a [u8],
+    pub log: &'a [u8],
+}
+
+impl Call {
+    /// Empty ones where the call has none.
+    pub fn lent(&self) -> Lent<'_> {
+        let none = Lent {
+            block: &[],
+            parameters: &[],
+            log: &[],
+        };
+        match self {
+            Call::Command {
+                block, parameters, ..
+            } => Lent {
+                block,
+                parameters,
+                ..none
+            },
+            Call::Replay { log, .. } => Lent { log, ..none },
+            _ => none,
+        }
+    }
+
+    /// The answer buffer as it is lent, empty where the call has none.
     pub fn answer(&self) -> &[u8] {
         match self {
             Call::Command { answer, .. } => answer,
@@ -48,15 +106,15 @@ impl Call {
         &self,
         implementation: &dyn Implementation,
         tables: Tables,
-        (block, parameters): (&[u8], &[u8]),
+        lent: Lent,
         answer: &mut [u8],
-    ) -> Reply {
-        match *self {
+    ) -> Ending {
+        let reply = match *self {
             Call::Command { entry, host, .. } => {
                 let request = Request {
                     host,
-                    block,
-                    parameters,
+                    block: lent.block,
+                    parameters: lent.parameters,
                     answer,
                 };
                 implementation.enter(entry, tables, request)
@@ -64,7 +122,14 @@ impl Call {
             Call::Import { address, volume } => implementation.import(tables, address, volume),
             Call::Export { address } => implementation.export(tables, address),
             Call::Reset => implementation.reset(tables),
-        }
+            Call::Replay {
+                expected, budget, ..
+            } => {
+                let replayed = implementation.replay(tables, lent.log, expected, budget);
+                return Ending::Replayed(replayed);
+            }
+        };
+        Ending::Replied(reply)
     }
 }
 
@@ -101,6 +166,18 @@ impl fmt::Display for Call {
             }
             Call::Export { address } => writeln!(out, "  export, address {address:#x}"),
             Call::Reset => writeln!(out, "  reset"),
+            Call::Replay {
+                log,
+                expected,
+                budget,
+            } => {
+                writeln!(out, "  replay, expected {expected}, budget {budget}")?;
+                writeln!(out, "  log ({}):", log.len())?;
+                for line in log.split_inclusive(|&byte| byte == b'\n') {
+                    writeln!(out, "    {}", line.escape_ascii())?;
+                }
+                Ok(())
+            }
         }
     }
 }

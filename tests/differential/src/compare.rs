@@ -5,20 +5,28 @@ use std::hint::black_box;
 
 use reference::{Implementation, Reply, TableBytes, Tables, TABLES};
 
-use crate::call::{hex, Call};
+use crate::call::{hex, Call, Ending, Lent};
 use crate::guarded::{Guarded, MARGIN};
 
 /// What is lent behind the tables.
-const REQUEST: [&str; 3] = ["block", "parameters", "answer"];
+const REQUEST: [&str; 4] = ["block", "parameters", "log", "answer"];
 
-/// How a call ended: the reply and every lent byte.
+/// How a call ended: what it handed back and every lent byte.
 pub struct Made {
-    pub reply: Reply,
+    pub ending: Ending,
     tables: [Guarded; TABLES.len()],
     request: [Guarded; REQUEST.len()],
 }
 
 impl Made {
+    /// The reply of a command or an event; a replay has none, which is all zeros here.
+    pub fn reply(&self) -> Reply {
+        match self.ending {
+            Ending::Replied(reply) => reply,
+            Ending::Replayed(_) => Reply::default(),
+        }
+    }
+
     pub fn head(&self) -> &[u8] {
         self.tables[0].content()
     }
@@ -28,7 +36,7 @@ impl Made {
     }
 
     pub fn answer(&self) -> &[u8] {
-        self.request[2].content()
+        self.request[3].content()
     }
 
     fn slices(&self) -> impl Iterator<Item = &Guarded> {
@@ -42,21 +50,29 @@ pub fn make(
     call: &Call,
     margin: [u8; MARGIN],
 ) -> Made {
-    let (block, parameters) = call.lent();
+    let Lent {
+        block,
+        parameters,
+        log,
+    } = call.lent();
     let mut tables = before
         .clone()
         .each()
         .map(|content| Guarded::new(content, margin));
     let mut request =
-        [block, parameters, call.answer()].map(|content| Guarded::new(content, margin));
-    let [block, parameters, answer] = &mut request;
-    let lent = (block.content(), parameters.content());
+        [block, parameters, log, call.answer()].map(|content| Guarded::new(content, margin));
+    let [block, parameters, log, answer] = &mut request;
+    let lent = Lent {
+        block: block.content(),
+        parameters: parameters.content(),
+        log: log.content(),
+    };
     let on = Tables::of(tables.each_mut().map(Guarded::content_mut));
-    let reply = call.make(implementation, on, lent, answer.content_mut());
+    let ending = call.make(implementation, on, lent, answer.content_mut());
     // Foreign code may have written where only reading was allowed; the bytes are looked at afresh.
     black_box((&mut tables, &mut request));
     Made {
-        reply,
+        ending,
         tables,
         request,
     }
@@ -64,20 +80,9 @@ pub fn make(
 
 /// One line for each field or slice that differs; none where the two agree.
 pub fn differences(expected: &Made, found: &Made) -> Vec<String> {
-    let fields = |reply: &Reply| {
-        [
-            ("number", u32::from(reply.number)),
-            ("status", u32::from(reply.status)),
-            ("preventers", u32::from(reply.preventers)),
-            ("lowest", u32::from(reply.lowest)),
-            ("count", reply.count),
-        ]
-    };
     let mut lines = Vec::new();
-    let pairs = fields(&expected.reply)
-        .into_iter()
-        .zip(fields(&found.reply));
-    for ((name, expected), (_, found)) in pairs {
+    let fields = expected.ending.fields().into_iter();
+    for ((name, expected), (_, found)) in fields.zip(found.ending.fields()) {
         if expected != found {
             lines.push(format!("{name}: expected {expected}, found {found}"));
         }
@@ -134,8 +139,8 @@ pub fn describe(before: &TableBytes, call: &Call, expected: &Made, found: &Made)
     for (name, table) in TABLES.into_iter().zip(before.clone().each()).skip(3) {
         let _ = writeln!(text, "  {name} ({}): {}", table.len(), hex(table));
     }
-    let _ = writeln!(text, "  expected {:?}", expected.reply);
-    let _ = writeln!(text, "  found    {:?}", found.reply);
+    let _ = writeln!(text, "  expected {:?}", expected.ending);
+    let _ = writeln!(text, "  found    {:?}", found.ending);
     for line in differences(expected, found) {
         let _ = writeln!(text, "  differs: {line}");
     }

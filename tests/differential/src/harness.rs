@@ -4,11 +4,11 @@ use std::time::{Duration, Instant};
 
 use reference::{Implementation, Reply, TableBytes};
 
-use crate::call::Call;
+use crate::call::{Call, Ending};
 use crate::compare::{describe, differences, make, Made};
 use crate::guarded::MARGIN;
 use crate::random::Random;
-use crate::tally::Tally;
+use crate::tally::{Outcome, Tally};
 
 const MOST_SHOWN: usize = 5;
 /// A run that breaks off this often is over.
@@ -85,11 +85,11 @@ impl<'a> Harness<'a> {
         self.report
     }
 
-    /// Makes the call and carries the tables on to what is expected after it. Does nothing once the run
-    /// is done.
-    pub fn call(&mut self, tables: &mut TableBytes, call: &Call) -> Reply {
+    /// Makes the call and carries the tables on to what is expected after it. Does nothing and tells nothing once
+    /// the run is done.
+    pub fn call(&mut self, tables: &mut TableBytes, call: &Call) -> Option<Ending> {
         if self.is_done() {
-            return Reply::default();
+            return None;
         }
         let margin = self.next_margin();
         let number = self.report.calls + 1;
@@ -112,12 +112,17 @@ impl<'a> Harness<'a> {
         self.report.tally.count(tables, call, &expected);
         self.progress.tell(self.report.calls, self.limits.calls);
         carry_on(tables, &expected);
-        expected.reply
+        Some(expected.ending)
+    }
+
+    /// Notes what a scenario alone can tell of the calls that it made.
+    pub fn reach(&mut self, outcome: Outcome) {
+        self.report.tally.reach(outcome);
     }
 
     /// What is expected of the call, without making it part of the run.
     pub fn expect(&mut self, tables: &TableBytes, call: &Call) -> Reply {
-        make(self.expected, tables, call, [0; MARGIN]).reply
+        make(self.expected, tables, call, [0; MARGIN]).reply()
     }
 
     fn next_margin(&mut self) -> [u8; MARGIN] {

@@ -2,6 +2,7 @@
 
 mod mode;
 mod panel;
+mod replay;
 mod shelves;
 
 use std::collections::BTreeMap;
@@ -13,9 +14,11 @@ use reference::{check, Clause, Entry, TableBytes};
 use crate::call::Call;
 use crate::compare::Made;
 use crate::generate::calls::COMMANDS;
+use crate::generate::logs::LineFault;
 
 pub use mode::{ModeCut, ModeFault};
 pub use panel::{Change, Wrong};
+pub use replay::{line_outcomes, Given, Lines, Stop};
 pub use shelves::{Had, Second, PLACES};
 
 /// "512 elements in four pages, with tags"
@@ -94,6 +97,7 @@ pub enum Slice {
     Block,
     Parameters,
     Answer,
+    Log,
 }
 
 /// How many bytes a length needs.
@@ -141,6 +145,28 @@ pub enum Outcome {
     WrongEmptyShelves(Wrong),
     /// GOOD, with the last of 127 transports named.
     LastOfMostTransports(First),
+    /// Why a replay stopped, and how many lines it had applied.
+    Replay(Stop, Lines),
+    /// The same by the number that was expected first.
+    ReplayFrom(Given, Stop),
+    /// Number 1 of a replay that has no line to look at: by its budget, by its log.
+    ReplayNotSound {
+        budget: bool,
+        log: bool,
+    },
+    /// A replay that goes on where one stopped.
+    WentOn(Stop),
+    /// Number 10 at a line with this fault.
+    LineAtFault(LineFault),
+    /// An applied line, by the house number of its call.
+    LineNumber(u8),
+    /// An applied line, by status: a command with house number 0.
+    LineStatus(First, u8),
+    /// An applied line whose answer is not kept.
+    LineAnswered(First),
+    LineEvent(Event, u8),
+    /// An applied line of 512 bytes.
+    LongestLine,
 }
 
 impl fmt::Display for First {
@@ -193,6 +219,18 @@ impl fmt::Display for Outcome {
             Outcome::LastOfMostTransports(first) => {
                 format!("{first}: GOOD by the last of 127 transports")
             }
+            Outcome::Replay(stop, lines) => format!("replay: {stop:?}, lines {lines:?}"),
+            Outcome::ReplayFrom(given, stop) => format!("replay from {given:?}: {stop:?}"),
+            Outcome::ReplayNotSound { budget, log } => {
+                format!("replay, number 1: budget {budget}, log {log}")
+            }
+            Outcome::WentOn(stop) => format!("replay goes on after {stop:?}"),
+            Outcome::LineAtFault(fault) => format!("line, number 10: {fault:?}"),
+            Outcome::LineNumber(number) => format!("line, house number {number}"),
+            Outcome::LineStatus(first, status) => format!("line, {first}: status {status:02X}h"),
+            Outcome::LineAnswered(first) => format!("line, {first}: its answer not kept"),
+            Outcome::LineEvent(event, number) => format!("line, {event:?}, house number {number}"),
+            Outcome::LongestLine => "line of 512 bytes".into(),
         };
         out.pad(&text)
     }
@@ -206,8 +244,12 @@ pub struct Tally {
 impl Tally {
     pub fn count(&mut self, before: &TableBytes, call: &Call, made: &Made) {
         for outcome in outcomes(before, call, made) {
-            *self.reached.entry(outcome).or_default() += 1;
+            self.reach(outcome);
         }
+    }
+
+    pub fn reach(&mut self, outcome: Outcome) {
+        *self.reached.entry(outcome).or_default() += 1;
     }
 
     pub fn times(&self, outcome: Outcome) -> usize {
@@ -232,7 +274,8 @@ impl fmt::Display for Tally {
 
 fn outcomes(before: &TableBytes, call: &Call, made: &Made) -> Vec<Outcome> {
     let mut reached = Vec::new();
-    let number = made.reply.number;
+    let reply = made.reply();
+    let number = reply.number;
     match call {
         Call::Command {
             entry, host, block, ..
@@ -246,9 +289,14 @@ fn outcomes(before: &TableBytes, call: &Call, made: &Made) -> Vec<Outcome> {
         Call::Import { .. } => reached.push(Outcome::EventNumber(Event::Import, number)),
         Call::Export { .. } => reached.push(Outcome::EventNumber(Event::Export, number)),
         Call::Reset => reached.push(Outcome::EventNumber(Event::Reset, number)),
+        Call::Replay {
+            log,
+            expected,
+            budget,
+        } => reached.extend(replay::outcomes(log, (*expected, *budget), made)),
     }
     reached.extend(long_slices(before, call, made));
-    if number == 1 {
+    if made.ending.number() == 1 {
         let broken = check(&before.clone().lend()).err();
         reached.extend(broken.map(Outcome::Broken));
         if broken == Some(Clause::SourceAddress) {
@@ -259,8 +307,8 @@ fn outcomes(before: &TableBytes, call: &Call, made: &Made) -> Vec<Outcome> {
         }
     }
     if number == 7 {
-        reached.push(Outcome::Preventers(made.reply.preventers));
-        reached.push(Outcome::Lowest(made.reply.lowest));
+        reached.push(Outcome::Preventers(reply.preventers));
+        reached.push(Outcome::Lowest(reply.lowest));
     }
     reached
 }
@@ -272,7 +320,7 @@ fn command_outcomes(
     block: &[u8],
     made: &Made,
 ) -> Vec<Outcome> {
-    let reply = made.reply;
+    let reply = made.reply();
     if reply.number != 0 {
         return vec![Outcome::NumberOf(first, reply.number)];
     }
@@ -330,16 +378,17 @@ fn names_last_of_most_transports(before: &TableBytes, block: &[u8]) -> bool {
 
 /// The answer buffer counts where bytes were returned that would have no room if its length were cut.
 fn long_slices(before: &TableBytes, call: &Call, made: &Made) -> Vec<Outcome> {
-    let (block, parameters) = call.lent();
+    let lent = call.lent();
     let answer = call.answer().len();
-    let needed = made.reply.count as usize > answer % 65_536;
+    let needed = made.reply().count as usize > answer % 65_536;
     let lengths = [
         (Slice::Head, before.head.len()),
         (Slice::Elements, before.elements.len()),
         (Slice::Tags, before.tags.len()),
         (Slice::Blank, before.blank.len()),
-        (Slice::Block, block.len()),
-        (Slice::Parameters, parameters.len()),
+        (Slice::Block, lent.block.len()),
+        (Slice::Parameters, lent.parameters.len()),
+        (Slice::Log, lent.log.len()),
         (Slice::Answer, if needed { answer } else { 0 }),
     ];
     let long = |(slice, length): (Slice, usize)| {
@@ -348,13 +397,14 @@ fn long_slices(before: &TableBytes, call: &Call, made: &Made) -> Vec<Outcome> {
             (Slice::Head | Slice::Blank | Slice::Block, 256..) => Above::OneByte,
             _ => return None,
         };
-        Some(Outcome::Long(slice, above, made.reply.number))
+        let number = made.ending.number() as u8;
+        Some(Outcome::Long(slice, above, number))
     };
     lengths.into_iter().filter_map(long).collect()
 }
 
 fn buffer(made: &Made) -> Outcome {
-    Outcome::Buffer(match made.answer().len() == made.reply.count as usize {
+    Outcome::Buffer(match made.answer().len() == made.reply().count as usize {
         true => Buffer::Equal,
         false => Buffer::Longer,
     })
@@ -386,7 +436,7 @@ fn three(bytes: &[u8]) -> usize {
 
 fn cut(block: &[u8], made: &Made) -> Cut {
     let allocation = three(&block[7..]);
-    let returned = &made.answer()[..made.reply.count as usize];
+    let returned = &made.answer()[..made.reply().count as usize];
     if returned.len() < 8 {
         return if returned.is_empty() {
             Cut::Nothing
@@ -432,6 +482,7 @@ pub fn required() -> Vec<Outcome> {
     required.extend(mode::required());
     required.extend(shelves::required());
     required.extend(panel::required());
+    required.extend(replay::required());
     required.extend((1..=8).map(Outcome::Preventers));
     required.extend((1..=8).map(Outcome::Lowest));
     required.extend(required_lengths());
@@ -447,6 +498,8 @@ fn required_lengths() -> Vec<Outcome> {
         Outcome::Long(Slice::Parameters, Above::TwoBytes, 0),
         Outcome::Long(Slice::Parameters, Above::TwoBytes, 4),
         Outcome::Long(Slice::Answer, Above::TwoBytes, 0),
+        Outcome::Long(Slice::Log, Above::TwoBytes, 0),
+        Outcome::Long(Slice::Log, Above::TwoBytes, 10),
     ];
     for above in [Above::OneByte, Above::TwoBytes] {
         required.push(Outcome::Long(Slice::Head, above, 1));

@@ -21,7 +21,7 @@ fn happen(scene: &mut Scene, call: &Call) -> Reply {
     let made = make(&Reference::default(), &scene.tables, call, [0xA5; 16]);
     scene.tables.head = made.head().to_vec();
     scene.tables.elements = made.elements().to_vec();
-    made.reply
+    made.reply()
 }
 
 /// The volumes that should be present after the call: those before, plus an import, less an export.
@@ -131,7 +131,9 @@ fn histories_move_import_and_export() {
             match call {
                 Call::Import { .. } => imported += good,
                 Call::Export { .. } => exported += good,
-                _ if [Some(&0xA5), Some(&0xA6)].contains(&call.lent().0.first()) => moved += good,
+                _ if [Some(&0xA5), Some(&0xA6)].contains(&call.lent().block.first()) => {
+                    moved += good
+                }
                 _ => {}
             }
         }

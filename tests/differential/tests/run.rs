@@ -4,7 +4,7 @@ use std::time::Instant;
 
 use differential::harness::{Limits, Report, Subject};
 use differential::{scenarios, DEFAULT_CALLS, DEFAULT_SEED};
-use reference::{Entry, Implementation, Reference, Reply, Request, Tables};
+use reference::{Entry, Implementation, Reference, Replayed, Reply, Request, Tables};
 
 fn compare_with_a_copy(calls: usize, seed: u64) -> Report {
     let copy = Subject {
@@ -54,6 +54,10 @@ impl Implementation for BreaksOff {
 
     fn reset(&self, tables: Tables) -> Reply {
         Reference::default().reset(tables)
+    }
+
+    fn replay(&self, tables: Tables, log: &[u8], expected: u32, budget: u32) -> Replayed {
+        Reference::default().replay(tables, log, expected, budget)
     }
 }
 

@@ -1,12 +1,12 @@
-//! Code between a front end and the core that is wrong only for long slices, the largest listing or the last of many
-//! transports. Each must be found within a run of the default size.
+//! Code between a front end and the core that is wrong only for long slices and large numbers, the largest listing or the last of
+//! many transports. Each must be found within a run of the default size.
 
 use std::mem::take;
 
 use differential::harness::{Limits, Subject};
 use differential::scene::HEAD_LENGTH;
 use differential::{scenarios, DEFAULT_CALLS, DEFAULT_SEED};
-use reference::{Entry, Implementation, Reference, Reply, Request, Tables};
+use reference::{Entry, Implementation, Reference, Replayed, Reply, Request, Tables};
 
 #[derive(Clone, Copy, Debug)]
 enum Mistake {
@@ -21,9 +21,15 @@ enum Mistake {
     BlankCutToTwoBytes,
     LargestListingSpoiled,
     LastTransportRefused,
+    LogCutToOneByte,
+    LogCutToTwoBytes,
+    ExpectedCutToTwoBytes,
+    BudgetCutToOneByte,
+    BudgetCutToTwoBytes,
+    PlaceCutToTwoBytes,
 }
 
-const MISTAKES: [Mistake; 11] = [
+const MISTAKES: [Mistake; 17] = [
     Mistake::BlockCutToOneByte,
     Mistake::BlockCutToTwoBytes,
     Mistake::ParametersCutToTwoBytes,
@@ -35,6 +41,12 @@ const MISTAKES: [Mistake; 11] = [
     Mistake::BlankCutToTwoBytes,
     Mistake::LargestListingSpoiled,
     Mistake::LastTransportRefused,
+    Mistake::LogCutToOneByte,
+    Mistake::LogCutToTwoBytes,
+    Mistake::ExpectedCutToTwoBytes,
+    Mistake::BudgetCutToOneByte,
+    Mistake::BudgetCutToTwoBytes,
+    Mistake::PlaceCutToTwoBytes,
 ];
 
 struct Wrapper {
@@ -112,6 +124,23 @@ impl Implementation for Wrapper {
 
     fn reset(&self, tables: Tables) -> Reply {
         Reference::default().reset(self.hand_on(tables))
+    }
+
+    fn replay(&self, tables: Tables, log: &[u8], expected: u32, budget: u32) -> Replayed {
+        let (mut log, mut expected, mut budget) = (log, expected, budget);
+        match self.mistake {
+            Mistake::LogCutToOneByte => log = cut(log, 256),
+            Mistake::LogCutToTwoBytes => log = cut(log, 65_536),
+            Mistake::ExpectedCutToTwoBytes => expected %= 65_536,
+            Mistake::BudgetCutToOneByte => budget %= 256,
+            Mistake::BudgetCutToTwoBytes => budget %= 65_536,
+            _ => {}
+        }
+        let mut told = Reference::default().replay(self.hand_on(tables), log, expected, budget);
+        if let Mistake::PlaceCutToTwoBytes = self.mistake {
+            told.place %= 65_536;
+        }
+        told
     }
 }
 

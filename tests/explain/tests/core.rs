@@ -10,8 +10,8 @@ use differential::random::Random;
 use differential::{scenarios, DEFAULT_SEED};
 use explain::{explain, Fault};
 use reference::{
-    check, fails_alone, Clause, Entry, Implementation, Reference, Reply, Request, TableBytes,
-    Tables,
+    check, fails_alone, Clause, Entry, Implementation, Reference, Replayed, Reply, Request,
+    TableBytes, Tables,
 };
 
 const CALLS: usize = 60_000;
@@ -30,7 +30,12 @@ impl Explained {
         }
     }
 
-    fn call(&self, tables: Tables, make: impl FnOnce(Tables) -> Reply) -> Reply {
+    fn call<R>(
+        &self,
+        tables: Tables,
+        make: impl FnOnce(Tables) -> R,
+        number: impl Fn(&R) -> u32,
+    ) -> R {
         let (fault, tables) = explained(tables);
         let expected = check(&tables);
         if let Err(clause) = expected {
@@ -40,11 +45,15 @@ impl Explained {
         }
         let shown = format!("{fault:?}");
         let reply = make(tables);
-        assert_eq!(fault.clause().is_some(), reply.number == 1, "{shown}");
+        assert_eq!(fault.clause().is_some(), number(&reply) == 1, "{shown}");
         if let Some(clause) = fault.clause() {
             *self.told.borrow_mut().entry(clause).or_default() += 1;
         }
         reply
+    }
+
+    fn reply(&self, tables: Tables, make: impl FnOnce(Tables) -> Reply) -> Reply {
+        self.call(tables, make, |reply| reply.number.into())
     }
 
     /// The tables alone, by the event that needs nothing else.
@@ -74,19 +83,24 @@ fn explained(tables: Tables) -> (Fault, Tables) {
 
 impl Implementation for Explained {
     fn enter(&self, entry: Entry, tables: Tables, request: Request) -> Reply {
-        self.call(tables, |tables| self.core.enter(entry, tables, request))
+        self.reply(tables, |tables| self.core.enter(entry, tables, request))
     }
 
     fn import(&self, tables: Tables, address: u32, volume: u32) -> Reply {
-        self.call(tables, |tables| self.core.import(tables, address, volume))
+        self.reply(tables, |tables| self.core.import(tables, address, volume))
     }
 
     fn export(&self, tables: Tables, address: u32) -> Reply {
-        self.call(tables, |tables| self.core.export(tables, address))
+        self.reply(tables, |tables| self.core.export(tables, address))
     }
 
     fn reset(&self, tables: Tables) -> Reply {
-        self.call(tables, |tables| self.core.reset(tables))
+        self.reply(tables, |tables| self.core.reset(tables))
+    }
+
+    fn replay(&self, tables: Tables, log: &[u8], expected: u32, budget: u32) -> Replayed {
+        let replay = |tables: Tables| self.core.replay(tables, log, expected, budget);
+        self.call(tables, replay, |replayed| replayed.number)
     }
 }
 

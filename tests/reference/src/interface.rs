@@ -11,6 +11,15 @@ pub struct Reply {
     pub count: u32,
 }
 
+/// How a replay ended, field for field as the front end receives it.
+#[derive(Clone, Copy, Debug, Default, PartialEq, Eq)]
+pub struct Replayed {
+    pub number: u32,
+    pub lines: u32,
+    pub place: usize,
+    pub expected: u32,
+}
+
 /// The lent tables, as bytes.
 #[derive(Debug)]
 pub struct Tables<'a> {
@@ -32,6 +41,16 @@ impl<'a> Tables<'a> {
             elements,
             tags,
             blank,
+        }
+    }
+
+    /// The same slices for a call, to be lent again after it.
+    pub fn lend(&mut self) -> Tables<'_> {
+        Tables {
+            head: self.head,
+            elements: self.elements,
+            tags: self.tags,
+            blank: self.blank,
         }
     }
 }
@@ -122,4 +141,6 @@ pub trait Implementation {
     fn import(&self, tables: Tables, address: u32, volume: u32) -> Reply;
     fn export(&self, tables: Tables, address: u32) -> Reply;
     fn reset(&self, tables: Tables) -> Reply;
+    /// At most `budget` lines of the log, the first of which has the expected number.
+    fn replay(&self, tables: Tables, log: &[u8], expected: u32, budget: u32) -> Replayed;
 }

@@ -1,4 +1,4 @@
-//! The rules of document 01, with requests One to Four of document 02, over plain records.
+//! The rules of document 01, with requests One to Five of document 02, over plain records.
 //!
 //! The lent bytes are read into a [`library::Library`], the rules work on that, and the result is written
 //! back. It is meant to be read beside these documents and to be compared with the command core; it is not
@@ -15,12 +15,13 @@ mod moves;
 mod panel;
 mod records;
 mod refusal;
+mod replay;
 mod reservations;
 mod rules;
 mod sense;
 mod soundness;
 
-pub use interface::{Entry, Implementation, Reply, Request, TableBytes, Tables, TABLES};
+pub use interface::{Entry, Implementation, Replayed, Reply, Request, TableBytes, Tables, TABLES};
 pub use refusal::Refusal;
 pub use rules::{Mutation, Rules};
 pub use soundness::{check, fails_alone, Clause};
@@ -121,5 +122,9 @@ impl Implementation for Reference {
             events::reset(library, self.rules);
             Ok(())
         })
+    }
+
+    fn replay(&self, tables: Tables, log: &[u8], expected: u32, budget: u32) -> Replayed {
+        replay::replay(self, tables, log, (expected, budget))
     }
 }

@@ -94,12 +94,38 @@ pub enum Mutation {
     ImportFreesTheElement,
     ResetKeepsPreventMask,
     ResetKeepsOlderAttention,
+
+    // Replay.
+    LineAtFaultCounted,
+    LineAtFaultPassed,
+    TablesPutBackAtTen,
+    RefusedLineNotCounted,
+    LineBehindBudgetJudged,
+    ExpectedAsGiven,
+    TablesUnjudgedWithoutLines,
+    AnswersNeedRoom,
+    LineFeedCountedInLine,
+    LongLineTaken,
+    RestWithoutLineFeedTaken,
+    CarriageReturnPassed,
+    FurtherFieldsPassed,
+    LeadingZeroLetThrough,
+    NumberCutToFourBytes,
+    NumberCutToEightBytes,
+    LaterNumberTaken,
+    HostNineIsNoLine,
+    HostOfTwoDigits,
+    EmptyCommandIsNoLine,
+    LowerCaseLetThrough,
+    OddDigitPassed,
+    EventParametersPassed,
+    UnknownEventCounts,
 }
 
 impl Mutation {
     /// Every mutation but [`Mutation::NotJudged`].
     #[rustfmt::skip]
-    pub const SINGLE: [Mutation; 69] = [
+    pub const SINGLE: [Mutation; 93] = [
         Mutation::HostCutToOneByte,
         Mutation::EventAddressCutToTwoBytes,
         Mutation::ImportedVolumeCutToTwoBytes,
@@ -169,6 +195,30 @@ impl Mutation {
         Mutation::ImportFreesTheElement,
         Mutation::ResetKeepsPreventMask,
         Mutation::ResetKeepsOlderAttention,
+        Mutation::LineAtFaultCounted,
+        Mutation::LineAtFaultPassed,
+        Mutation::TablesPutBackAtTen,
+        Mutation::RefusedLineNotCounted,
+        Mutation::LineBehindBudgetJudged,
+        Mutation::ExpectedAsGiven,
+        Mutation::TablesUnjudgedWithoutLines,
+        Mutation::AnswersNeedRoom,
+        Mutation::LineFeedCountedInLine,
+        Mutation::LongLineTaken,
+        Mutation::RestWithoutLineFeedTaken,
+        Mutation::CarriageReturnPassed,
+        Mutation::FurtherFieldsPassed,
+        Mutation::LeadingZeroLetThrough,
+        Mutation::NumberCutToFourBytes,
+        Mutation::NumberCutToEightBytes,
+        Mutation::LaterNumberTaken,
+        Mutation::HostNineIsNoLine,
+        Mutation::HostOfTwoDigits,
+        Mutation::EmptyCommandIsNoLine,
+        Mutation::LowerCaseLetThrough,
+        Mutation::OddDigitPassed,
+        Mutation::EventParametersPassed,
+        Mutation::UnknownEventCounts,
     ];
 }
 

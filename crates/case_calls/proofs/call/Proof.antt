@@ -1,4 +1,4 @@
--- `case_calls::call` meets its contract: the room is as long as `keep` and `take-back` leave it. Assumes nothing.
+-- `case_calls::call` meets its contract: the room is as long as `keep`, `take-back` and `take-answer` leave it. Assumes nothing.
 use mathlib.Core.Path.{_∙_}
 use borrow.Author.Needs.{needs}
 use Rattle.case_calls.proofs.call.Statement.{statement}
@@ -49,11 +49,14 @@ slice-aggregate-take-back c = search needs
 slice-aggregate-take-back-2 : tie.Need-slice-aggregate-take-back-2
 slice-aggregate-take-back-2 c = search needs
 
-slice-aggregate-take-back-3 : tie.Need-slice-aggregate-take-back-3
-slice-aggregate-take-back-3 c = search needs
-
 take-back-requires : tie.Need-take-back-requires
 take-back-requires c κs = search needs
+
+slice-aggregate-take-answer : tie.Need-slice-aggregate-take-answer
+slice-aggregate-take-answer c = search needs
+
+take-answer-requires : tie.Need-take-answer-requires
+take-answer-requires c κs = search needs
 
 slice-aggregate-part : tie.Need-slice-aggregate-part
 slice-aggregate-part c = search needs
@@ -69,10 +72,11 @@ after-requires c κs = search needs
 
 same-length : tie.Need-same-length
 same-length c =
-    let taken = c .before .before .before .before .before .before in
-    let made = taken .before .before .before .before .before .before .before .before in
+    let answered = c .before .before .before .before .before .before in
+    let taken = answered .before .before .before .before .before in
+    let made = taken .before .before .before .before .before .before .before in
     let keep = made .before .before .before .before .before .before .before in
-    taken .take-back .kept .1 .0 ∙ keep .keep .kept .0
+    answered .take-answer .kept .1 .0 ∙ taken .take-back .kept .1 .0 ∙ keep .keep .kept .0
 
 returns : tie.Need-returns
 returns c = search needs
@@ -96,8 +100,9 @@ call-spec =
     made-requires
     slice-aggregate-take-back
     slice-aggregate-take-back-2
-    slice-aggregate-take-back-3
     take-back-requires
+    slice-aggregate-take-answer
+    take-answer-requires
     slice-aggregate-part
     part-requires-3
     past-requires

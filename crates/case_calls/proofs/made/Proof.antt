@@ -1,6 +1,7 @@
 -- `case_calls::made` meets its contract: the fronts of the rooms are lent to the entry, and come back. Assumes nothing.
 use Rattle.rules.specs.Tables.{others}
-use Rattle.case_calls.proofs.Fronts.{front, given, fresh, answered, carried}
+use Rattle.case_rooms.proofs.Lending.{front, given}
+use Rattle.case_calls.proofs.Fronts.{fresh, answered, carried}
 use borrow.Author.Needs.{needs}
 use Rattle.case_calls.proofs.made.Statement.{statement}
 use Rattle.case_calls.proofs.made.Tie as tie

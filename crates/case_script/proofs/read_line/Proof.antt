@@ -15,16 +15,25 @@ slice-aggregate-read-text c = sym (length-take-le _ _ (c .before .find .ensures 
 read-text-requires : tie.Need-read-text-requires
 read-text-requires c κs = search needs
 
+uncommented-requires : tie.Need-uncommented-requires
+uncommented-requires c κs = search needs
+
 same-length : tie.Need-same-length
 same-length c = search needs
 
 returns : tie.Need-returns
 returns c =
-    let read-text = c .before .before in
-    let find = read-text .before .before .before in
-    (line-is _ _ _ (find .find .ensures .0) _ _ (read-text .read-text .ensures), line-inside _ _ _ (find .find .ensures .0) _ _ (read-text .read-text .ensures))
+    let read-text = c .before .before .before in
+    let find = (read-text .before .before .before) .find .ensures in
+    (line-is _ _ _ (find .0) (find .1 .1) _ _ (read-text .read-text .ensures) _ (c .uncommented .ensures), line-inside _ _ _ (find .0) (find .1 .1) _ _ (read-text .read-text .ensures) _ (c .uncommented .ensures))
 
 pub read-line-spec : {M : Type 1} → statement M
 read-line-spec =
     tie.close
-    (tie.spec find-requires slice-aggregate-read-text read-text-requires same-length returns)
+    (tie.spec
+    find-requires
+    slice-aggregate-read-text
+    read-text-requires
+    uncommented-requires
+    same-length
+    returns)

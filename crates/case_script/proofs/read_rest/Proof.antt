@@ -86,8 +86,8 @@ returns-6 c =
     let shape = no1 .before in
     by-shape _ _ _ _ (shape .shape .ensures) _ (eq-not _ _ _ _ _ (no1 .if1 .left) (eq-not _ _ _ _ _ (no2 .if2 .left) (eq-not _ _ _ _ _ (no3 .if3 .left) (eq-not _ _ _ _ _ (no4 .if4 .left) (eq-not _ _ _ _ _ (no5 .if5 .left) (eq-is _ _ _ _ _ (yes6 .if6 .taken) (read-bytes .read-bytes .ensures)))))))
 
-read-number-and-bytes-requires : tie.Need-read-number-and-bytes-requires
-read-number-and-bytes-requires c κs = search needs
+read-log-requires : tie.Need-read-log-requires
+read-log-requires c κs = search needs
 
 same-length-2 : tie.Need-same-length-2
 same-length-2 c = search needs
@@ -95,15 +95,36 @@ same-length-2 c = search needs
 returns-7 : tie.Need-returns-7
 unfolding shaped
 returns-7 c =
-    let read-number-and-bytes = c .before .before in
-    let no6 = read-number-and-bytes .before .before in
+    let read-log = c .before .before in
+    let yes7 = read-log .before .before in
+    let no6 = yes7 .before in
     let no5 = no6 .before in
     let no4 = no5 .before in
     let no3 = no4 .before in
     let no2 = no3 .before in
     let no1 = no2 .before in
     let shape = no1 .before in
-    by-shape _ _ _ _ (shape .shape .ensures) _ (eq-not _ _ _ _ _ (no1 .if1 .left) (eq-not _ _ _ _ _ (no2 .if2 .left) (eq-not _ _ _ _ _ (no3 .if3 .left) (eq-not _ _ _ _ _ (no4 .if4 .left) (eq-not _ _ _ _ _ (no5 .if5 .left) (eq-not _ _ _ _ _ (no6 .if6 .left) (read-number-and-bytes .read-number-and-bytes .ensures)))))))
+    by-shape _ _ _ _ (shape .shape .ensures) _ (eq-not _ _ _ _ _ (no1 .if1 .left) (eq-not _ _ _ _ _ (no2 .if2 .left) (eq-not _ _ _ _ _ (no3 .if3 .left) (eq-not _ _ _ _ _ (no4 .if4 .left) (eq-not _ _ _ _ _ (no5 .if5 .left) (eq-not _ _ _ _ _ (no6 .if6 .left) (eq-is _ _ _ _ _ (yes7 .if7 .taken) (read-log .read-log .ensures))))))))
+
+read-number-and-bytes-requires : tie.Need-read-number-and-bytes-requires
+read-number-and-bytes-requires c κs = search needs
+
+same-length-3 : tie.Need-same-length-3
+same-length-3 c = search needs
+
+returns-8 : tie.Need-returns-8
+unfolding shaped
+returns-8 c =
+    let read-number-and-bytes = c .before .before in
+    let no7 = read-number-and-bytes .before .before in
+    let no6 = no7 .before in
+    let no5 = no6 .before in
+    let no4 = no5 .before in
+    let no3 = no4 .before in
+    let no2 = no3 .before in
+    let no1 = no2 .before in
+    let shape = no1 .before in
+    by-shape _ _ _ _ (shape .shape .ensures) _ (eq-not _ _ _ _ _ (no1 .if1 .left) (eq-not _ _ _ _ _ (no2 .if2 .left) (eq-not _ _ _ _ _ (no3 .if3 .left) (eq-not _ _ _ _ _ (no4 .if4 .left) (eq-not _ _ _ _ _ (no5 .if5 .left) (eq-not _ _ _ _ _ (no6 .if6 .left) (eq-not _ _ _ _ _ (no7 .if7 .left) (read-number-and-bytes .read-number-and-bytes .ensures))))))))
 
 pub read-rest-spec : {M : Type 1} → statement M
 read-rest-spec =
@@ -123,6 +144,9 @@ read-rest-spec =
     read-bytes-requires
     same-length
     returns-6
-    read-number-and-bytes-requires
+    read-log-requires
     same-length-2
-    returns-7)
+    returns-7
+    read-number-and-bytes-requires
+    same-length-3
+    returns-8)

@@ -4,7 +4,7 @@ use mathlib.Core.Path.{refl, sym, _∙_}
 use borrow.Author.Tests.{not-true, not-false}
 use Rattle.rules.specs.Bytes.{byte}
 use Rattle.rules.specs.Tables.{lent}
-use Rattle.rules.specs.Command.{judge, judged}
+use Rattle.rules.specs.Command.{judge, afterNumbers, judged}
 use Rattle.rules.proofs.Ladder.{yes, no}
 use Rattle.rules.proofs.Rungs.{ends-as}
 use Rattle.rules.proofs.Soundness.{within-low, within-high}
@@ -31,7 +31,7 @@ same-length-2 : tie.Need-same-length-2
 same-length-2 c = search needs
 
 returns : tie.Need-returns
-unfolding judge judged byte
+unfolding judge judged afterNumbers byte
 returns c =
     let broken = c .before in
     let checked = broken .before .before in
@@ -49,7 +49,7 @@ same-length-4 : tie.Need-same-length-4
 same-length-4 c = search needs
 
 returns-2 : tie.Need-returns-2
-unfolding judge judged byte
+unfolding judge judged afterNumbers byte
 returns-2 c =
     let strange = c .before in
     let whole = strange .before in
@@ -73,7 +73,7 @@ same-length-6 : tie.Need-same-length-6
 same-length-6 c = search needs
 
 returns-3 : tie.Need-returns-3
-unfolding judge judged byte
+unfolding judge judged afterNumbers byte
 returns-3 c =
     let wrong = c .before in
     let read = wrong .before in
@@ -114,7 +114,7 @@ same-length-8 : tie.Need-same-length-8
 same-length-8 c = search needs
 
 returns-4 : tie.Need-returns-4
-unfolding judge judged byte
+unfolding judge judged afterNumbers byte
 returns-4 c =
     let unwanted = c .before in
     let wanted = unwanted .before in
@@ -166,7 +166,7 @@ same-length-11 : tie.Need-same-length-11
 same-length-11 c = search needs
 
 returns-5 : tie.Need-returns-5
-unfolding judge judged byte
+unfolding judge judged afterNumbers byte
 returns-5 c =
     let called = c .before .before .before .before .before .before in
     let wholly = called .before .before .before .before .before in

@@ -1,9 +1,10 @@
 //! The small library as lent bytes, and calls on it. Every call is made on the reference and on the built library.
 
+use std::fmt::Debug;
 use std::ops::{Deref, DerefMut};
 
 use core_ffi::EmptySlices;
-use reference::{Entry, Implementation, Reference, Reply, Request, TableBytes, Tables};
+use reference::{Entry, Implementation, Reference, Replayed, Reply, Request, TableBytes, Tables};
 
 /// What every answer buffer is filled with before a call.
 pub const UNTOUCHED: u8 = 0xEE;
@@ -129,7 +130,7 @@ impl Library {
         (host, block, parameters): (u32, &[u8], &[u8]),
         buffer: usize,
     ) -> Answered {
-        self.on_each(buffer, |on, tables, answer| {
+        let (reply, answer) = self.on_each(buffer, |on, tables, answer| {
             let request = Request {
                 host,
                 block,
@@ -137,38 +138,46 @@ impl Library {
                 answer,
             };
             on.enter(entry, tables, request)
-        })
+        });
+        Answered { reply, answer }
     }
 
     pub fn import(&mut self, address: u32, volume: u32) -> Reply {
         let call = |on: &dyn Implementation, tables: Tables, _: &mut [u8]| {
             on.import(tables, address, volume)
         };
-        self.on_each(0, call).reply
+        self.on_each(0, call).0
     }
 
     pub fn export(&mut self, address: u32) -> Reply {
         let call =
             |on: &dyn Implementation, tables: Tables, _: &mut [u8]| on.export(tables, address);
-        self.on_each(0, call).reply
+        self.on_each(0, call).0
     }
 
     pub fn reset(&mut self) -> Reply {
         let call = |on: &dyn Implementation, tables: Tables, _: &mut [u8]| on.reset(tables);
-        self.on_each(0, call).reply
+        self.on_each(0, call).0
+    }
+
+    pub fn replay(&mut self, log: &[u8], expected: u32, budget: u32) -> Replayed {
+        let call = |on: &dyn Implementation, tables: Tables, _: &mut [u8]| {
+            on.replay(tables, log, expected, budget)
+        };
+        self.on_each(0, call).0
     }
 
     /// Makes the call on the reference, and on the built library over the same bytes. Both must end in the same
     /// way, to the last byte of tables and buffer: so what a test expects of one, it expects of the other.
-    fn on_each(
+    fn on_each<R: Debug + PartialEq>(
         &mut self,
         buffer: usize,
-        call: impl Fn(&dyn Implementation, Tables, &mut [u8]) -> Reply,
-    ) -> Answered {
+        call: impl Fn(&dyn Implementation, Tables, &mut [u8]) -> R,
+    ) -> (R, Vec<u8>) {
         let made = |on: &dyn Implementation, mut library: Library| {
             let mut answer = vec![UNTOUCHED; buffer];
-            let reply = call(on, library.lend(), &mut answer);
-            (Answered { reply, answer }, library)
+            let ending = call(on, library.lend(), &mut answer);
+            ((ending, answer), library)
         };
         let expected = made(&Reference::default(), self.clone());
         for empty in [EmptySlices::Pointer, EmptySlices::Null] {

@@ -1,4 +1,4 @@
-//! Document 01, and requests One, Two and Four of document 02, against the reference and the built library. Every expected value is written out by hand.
+//! Document 01, and requests One, Two, Four and Five of document 02, against the reference and the built library. Every expected value is written out by hand.
 
 mod fixture;
 
@@ -9,6 +9,7 @@ mod listings;
 mod mode_sense;
 mod moves;
 mod panel;
+mod replay;
 mod reservations;
 mod sense;
 mod shelves;

@@ -3,4 +3,5 @@
 pub mod calls;
 pub mod faults;
 pub mod lists;
+pub mod logs;
 pub mod sound;

@@ -6,6 +6,7 @@ mod events;
 mod libraries;
 mod modes;
 mod panel;
+mod replays;
 mod reserving;
 mod shelves;
 mod unsound;
@@ -25,7 +26,7 @@ macro_rules! named {
     ($($family:ident::$name:ident),* $(,)?) => { [$((stringify!($name), $family::$name as Scenario)),*] };
 }
 
-const SCENARIOS: [(&str, Scenario); 31] = named![
+const SCENARIOS: [(&str, Scenario); 41] = named![
     libraries::small_library,
     libraries::plausible_calls,
     libraries::history,
@@ -57,6 +58,16 @@ const SCENARIOS: [(&str, Scenario); 31] = named![
     blocks::hosts,
     events::events_at_the_edges,
     events::preventers,
+    replays::cut_logs,
+    replays::line_by_line,
+    replays::each_command,
+    replays::broken_logs,
+    replays::first_numbers,
+    replays::long_lines,
+    replays::wide_logs,
+    replays::one_byte_changed,
+    replays::no_logs,
+    replays::unsound_tables,
 ];
 
 /// Compares the subjects with what is expected. The same seed gives the same calls. A scenario that panics is

@@ -1,13 +1,17 @@
--- The tables that a call is lent. Assumes nothing.
+-- The tables and the log that a call is lent. Assumes nothing.
 use Prim.Native.Nat.{ℕ}
 use mathlib.Core.List.{List}
-use lib.ListN.{take}
+use lib.ListN.{take, drop}
 use Rattle.rules.specs.Tables.{Tables, lent, others}
 use Rattle.case_rooms.specs.declared.State.{State}
-use Rattle.case_rooms.specs.Parts.{part, lengthOf, HEAD, ELEMENTS, TAGS, BLANK, tagsAt, blankAt}
+use Rattle.case_rooms.specs.Parts.{part, lengthOf, HEAD, ELEMENTS, TAGS, BLANK, tagsAt, blankAt, logAt}
 
 -- the tables of a case as they lie: head and elements at the front of the copies that a call changes, the others in the room
 abbrev pub lying : State → List ℕ → List ℕ → List ℕ → Tables
 lying s head elements room =
     lent (take (lengthOf (s .sizes) HEAD) head) (take (lengthOf (s .sizes) ELEMENTS) elements)
     (others (part room tagsAt (lengthOf (s .sizes) TAGS)) (part room blankAt (lengthOf (s .sizes) BLANK)))
+
+-- the log of a case, from a place of it on
+abbrev pub logFrom : State → ℕ → List ℕ → List ℕ
+logFrom s at room = drop at (part room logAt (s .log .length))

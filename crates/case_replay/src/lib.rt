@@ -1,0 +1,85 @@
+// The replays of a case's log.
+use case_rooms::Effect;
+use case_rooms::State;
+use case_rooms::parts;
+use case_script::Line;
+use case_script::fault;
+use case_script::word;
+use replay::Replayed;
+ghost use mathlib.Core.Path.{_≡_};
+ghost use Rattle.rules.specs.Replay.{replay as replayOf};
+ghost use Rattle.replay.specs.Ended.{ended};
+ghost use Rattle.case_rooms.specs.Lying.{lying, logFrom};
+
+// The call on the parts of the rooms that the state says, with the log from the place `at` on.
+fn made(
+    state: State,
+    at: usize,
+    expected: u32,
+    budget: u32,
+    head: &mut [u8],
+    elements: &mut [u8],
+    room: &[u8],
+) -> Replayed
+    ensures { λ r. ⌜ ended r (lying state (now (head .exit)) (now (elements .exit)) (now (room .entry)))
+        ≡ replayOf (lying state (now (head .entry)) (now (elements .entry)) (now (room .entry))) (logFrom state at (now (room .entry))) expected budget ⌝ }
+{
+    let sizes = state.sizes;
+    let log = state.log;
+    let h = case_rooms::least(sizes[parts::HEAD], head.len());
+    let e = case_rooms::least(sizes[parts::ELEMENTS], elements.len());
+    let whole = case_rooms::part(room, parts::LOG_AT, log.length);
+    changer::smc_replay(
+        &mut head[0..h],
+        &mut elements[0..e],
+        case_rooms::part(room, parts::TAGS_AT, sizes[parts::TAGS]),
+        case_rooms::part(room, parts::BLANK_AT, sizes[parts::BLANK]),
+        case_rooms::part(whole, at, whole.len()),
+        expected,
+        budget,
+    )
+}
+
+// What the core handed back, for the state.
+fn noted(r: Replayed) -> case_rooms::Replayed
+    ensures { λ s. ⌜ s ≡ record { number = r .number; lines = r .lines; place = r .place; expected = r .expected } ⌝ }
+{
+    case_rooms::Replayed {
+        number: r.number,
+        lines: r.lines,
+        place: r.place,
+        expected: r.expected,
+    }
+}
+
+// The core changes head and elements while it reads the rest, so that these two are lent to it as copies.
+fn run(state: State, at: usize, expected: u32, budget: u32, room: &mut [u8]) -> Effect {
+    let mut head = [0u8; parts::HEAD_MOST];
+    let mut elements = [0u8; parts::ELEMENTS_MOST];
+    case_rooms::write(
+        &mut head,
+        0,
+        case_rooms::part(room, parts::HEAD_AT, parts::HEAD_MOST),
+    );
+    case_rooms::write(
+        &mut elements,
+        0,
+        case_rooms::part(room, parts::ELEMENTS_AT, parts::ELEMENTS_MOST),
+    );
+    case_keeping::keep(room, &head, &elements);
+    let ended = made(state, at, expected, budget, &mut head, &mut elements, room);
+    case_keeping::take_back(state, room, &head, &elements);
+    case_rooms::done(case_keeping::after_replay(state, at, noted(ended)))
+}
+
+// "the whole log, from its beginning", or "from where the last ended"
+pub fn replay(state: State, line: Line, room: &mut [u8]) -> Effect {
+    if line.word == word::REPLAY {
+        return run(state, 0, line.first, line.second, room);
+    }
+    let log = state.log;
+    if log.begun {
+        return run(state, log.at, log.expected, line.first, room);
+    }
+    case_rooms::refuse(state, fault::NO_REPLAY)
+}

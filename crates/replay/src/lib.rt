@@ -1,0 +1,95 @@
+// Replay of a recorded log. The tables are checked once, at the start: every line leaves sound tables sound, and their ranges as they are.
+use log_call::Turned;
+use tables::Range;
+ghost use mathlib.Core.Path.{_≡_};
+ghost use Rattle.rules.specs.Tables.{lent, others};
+ghost use Rattle.rules.specs.Replay.{turns as turnsOf, replay as replayOf};
+ghost use Rattle.log_call.specs.Turned.{Kept};
+ghost use Rattle.replay.specs.Ended.{ended};
+
+// What a call ends with: house number 0, 1 or 10, lines applied, bytes that they take, the number expected next.
+#[repr(C)]
+pub struct Replayed {
+    pub number: u32,
+    pub lines: u32,
+    pub place: usize,
+    pub expected: u32,
+}
+
+// The longest line has 512 bytes, and a byte takes two of them.
+const ROOM: usize = 256;
+
+fn told(number: u32, lines: u32, place: usize, expected: u32) -> Replayed
+    ensures { λ r. ⌜ r ≡ record { number = number; lines = lines; place = place; expected = expected } ⌝ }
+{
+    Replayed {
+        number,
+        lines,
+        place,
+        expected,
+    }
+}
+
+// "Each call does at most a stated number of lines": line by line, on sound tables.
+fn turns<'a>(
+    runs: [Range; 4],
+    head: &mut [u8],
+    elements: &mut [u8],
+    tags: &'a [u8],
+    blank: &'a [u8],
+    log: &[u8],
+    expected: u32,
+    budget: u32,
+) -> Replayed
+    requires { ⌜ Kept runs (now head) (now elements) (now tags) (now blank) ⌝ }
+    ensures { λ r. ⌜ ended r (lent (now (head .exit)) (now (elements .exit)) (others (now (tags .entry)) (now (blank .entry)))) ≡ turnsOf budget (lent (now (head .entry)) (now (elements .entry)) (others (now (tags .entry)) (now (blank .entry)))) (now (log .entry)) expected ⌝ }
+{
+    let mut block = [0u8; ROOM];
+    let mut list = [0u8; ROOM];
+    let mut lines: u32 = 0;
+    let mut place: usize = 0;
+    let mut next: u32 = expected;
+    while lines < budget {
+        if place == log.len() {
+            return told(0, lines, place, next);
+        }
+        let text = &log[place..];
+        match log_call::turn(
+            runs,
+            head,
+            elements,
+            tags,
+            blank,
+            next,
+            text,
+            &mut block,
+            &mut list,
+        ) {
+            Turned::Stopped => return told(10, lines, place, next),
+            Turned::Applied(taken) => place += taken,
+        }
+        lines += 1;
+        next += 1;
+    }
+    told(0, lines, place, next)
+}
+
+// "Replay starts from given tables and an expected number ..; unsound tables give 1."
+pub fn replay<'a>(
+    head: &mut [u8],
+    elements: &mut [u8],
+    tags: &'a [u8],
+    blank: &'a [u8],
+    log: &[u8],
+    expected: u32,
+    budget: u32,
+) -> Replayed
+    ensures { λ r. ⌜ ended r (lent (now (head .exit)) (now (elements .exit)) (others (now (tags .entry)) (now (blank .entry)))) ≡ replayOf (lent (now (head .entry)) (now (elements .entry)) (others (now (tags .entry)) (now (blank .entry)))) (now (log .entry)) expected budget ⌝ }
+{
+    let checked = sound::check(head, elements, tags, blank);
+    if !checked.sound {
+        return told(1, 0, 0, expected);
+    }
+    let runs = checked.runs;
+    turns(runs, head, elements, tags, blank, log, expected, budget)
+}
