@@ -77,7 +77,9 @@ returns-2 c =
 
 add-t31 : tie.Need-add-t31
 add-t31 c =
-    let number = c .before .before .before .before .before .before .before .before .before .before .before .before .before .before in
+    let carry = c .before .before .before .before .before .before .before in
+    let no1 = carry .before .before .before .before .before in
+    let number = no1 .before .before in
     let read = number .before .before .before .before .before .before in
     let start = read .before .before .before .before .before .before .before .before .before .before in
     omega (arith, start .good .1 .1 .1 .1 .1 .1 .0, held _ _ _ _ (read .read-line .ensures .0) (read .read-line .ensures .1) _ _ _ _ _ (number .number .given .1) .inside)

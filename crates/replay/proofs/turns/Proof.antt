@@ -19,7 +19,12 @@ abbrev μ-loop : tie.MeasureT-loop
 
 -- a line was applied
 went-on : (c : tie.After-known-told Inv-loop μ-loop)
-    → (let l = c .before .before .before .before .before .before .before .before .before .before .before .before .before .before .before .before .before .loop in Went (c .before .before .before .before .before .before .before .before .before .before .before .before .before .before .before .before .before .before .before .before .before .before .before .args .log .now) (l .place) (l .next) (c .before .taken .given .0 .0))
+    → (let turn = c .before .before .before .before .before .before .before .before .before in
+    let no1 = turn .before .before .before .before .before .before in
+    let round = no1 .before in
+    let l = round .before .loop in
+    let start = round .before .before .before .before .before .before .before in
+    Went (start .args .log .now) (l .place) (l .next) (c .before .taken .given .0 .0))
 went-on c =
     let turn = c .before .before .before .before .before .before .before .before .before in
     let no1 = turn .before .before .before .before .before .before in
@@ -116,7 +121,10 @@ enum-known-taken c = search needs
 
 add-place : tie.Need-add-place Inv-loop μ-loop
 add-place c =
-    let start = c .before .before .before .before .before .before .before .before .before .before .before .before .before .before .before .before .before .before .before .before .before .before .before in
+    let turn = c .before .before .before .before .before .before .before .before .before in
+    let no1 = turn .before .before .before .before .before .before in
+    let round = no1 .before in
+    let start = round .before .before .before .before .before .before .before in
     omega (arith, start .good .1 .1 .1 .1 .1 .0, went-on c .inside)
 
 add-lines : tie.Need-add-lines Inv-loop μ-loop
@@ -124,7 +132,6 @@ add-lines c =
     let turn = c .before .before .before .before .before .before .before .before .before in
     let no1 = turn .before .before .before .before .before .before in
     let round = no1 .before in
-    let l = round .before .loop in
     let start = round .before .before .before .before .before .before .before in
     omega (arith, round .loop-test .taken, start .fits)
 
@@ -136,7 +143,6 @@ loop-less c =
     let turn = c .before .before .before .before .before .before .before .before .before in
     let no1 = turn .before .before .before .before .before .before in
     let round = no1 .before in
-    let l = round .before .loop in
     omega (arith, round .loop-test .taken)
 
 loop-again : tie.Need-loop-again Inv-loop μ-loop
