@@ -11,7 +11,7 @@ use std::time::SystemTime;
 const ELSEWHERE: &str = "CHANGER_STATICLIB";
 const USUAL: &str = "target/staticlib/libchanger.a";
 const CRATE: &str = "changer";
-const BUILD_IT: &str = "run `rt staticlib changer` in the repository";
+const BUILD_IT: &str = "run `bin/library` in the repository";
 
 const ENTRIES: [&str; 14] = [
     "smc_command",
