@@ -1,4 +1,5 @@
-/* A morning in a small library: one transport, one import/export element, one drive, four shelves, three labelled volumes. */
+/* A morning in a small library: one transport, one import/export element, one drive, four shelves, three labelled volumes. The drive takes cartridges of
+ * generation 1; volume 3, which comes in, is of generation 2. */
 #include "smc.h"
 #include <stdio.h>
 #include <string.h>
@@ -9,6 +10,8 @@ static uint8_t head[SMC_HEAD_SIZE];
 static uint8_t elements[ELEMENTS * SMC_ELEMENT_SIZE];
 static uint8_t tags[3 * SMC_TAG_SIZE];
 static uint8_t blank[SMC_TAG_SIZE];
+static const uint8_t generations[3] = {1, 1, 2};
+static const uint8_t masks[1] = {SMC_MASK_BIT(1)};
 static uint8_t answer[512];
 
 static const smc_tables tables = {
@@ -20,6 +23,10 @@ static const smc_tables tables = {
     .tags_len = sizeof tags,
     .blank = blank,
     .blank_len = sizeof blank,
+    .generations = generations,
+    .generations_len = sizeof generations,
+    .masks = masks,
+    .masks_len = sizeof masks,
 };
 
 static void put16(uint8_t *at, unsigned value)
@@ -135,6 +142,8 @@ int main(void)
     say("The operator imports volume 3 at 0010h:", smc_import(SMC_LEND(&tables), 0x0010, 3));
     say("Host 1 asks whether the unit is ready:", send(1, ready, sizeof ready, NULL, 0));
     tell_sense(1);
+    say("Host 1 moves volume 3 from 0010h to the drive:", move(1, 0x0010, 0x0100));
+    tell_sense(1); /* 5/30/12: the drive does not take its generation */
     say("Host 1 moves volume 3 from 0010h to shelf 1001h:", move(1, 0x0010, 0x1001));
     say("Host 1 moves volume 1 from 1000h to the drive:", move(1, 0x1000, 0x0100));
     show_panel();

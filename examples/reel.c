@@ -10,6 +10,8 @@ static uint8_t head[SMC_HEAD_SIZE];
 static uint8_t elements[ELEMENTS * SMC_ELEMENT_SIZE];
 static uint8_t tags[3 * SMC_TAG_SIZE];
 static uint8_t blank[SMC_TAG_SIZE];
+static const uint8_t generations[3] = {1, 1, 1};
+static const uint8_t masks[1] = {SMC_MASK_BIT(1)};
 
 static const smc_tables tables = {
     .head = head,
@@ -20,6 +22,10 @@ static const smc_tables tables = {
     .tags_len = sizeof tags,
     .blank = blank,
     .blank_len = sizeof blank,
+    .generations = generations,
+    .generations_len = sizeof generations,
+    .masks = masks,
+    .masks_len = sizeof masks,
 };
 
 /* The elements in the order of their records, which is that of their addresses. */
@@ -50,7 +56,8 @@ static void put_range(int type, unsigned first, unsigned count)
     put16(head + SMC_RANGE_AT(type) + SMC_RANGE_COUNT, count);
 }
 
-/* As at opening: volume 1 at 1000h, volume 2 at 1002h, two shelves empty. Where a reel went is told by its number, so the labels may be any. */
+/* As at opening: volume 1 at 1000h, volume 2 at 1002h, two shelves empty. The cartridges are those of that morning too: all of generation 1,
+ * which the drive takes. Where a reel went is told by its number, so the labels may be any. */
 static void open_library(void)
 {
     put_range(SMC_TRANSPORT, 0x0001, 1);

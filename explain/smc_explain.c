@@ -1,9 +1,10 @@
-/* Why tables are not sound: the clauses of crates/rules/specs/Sound.antt, in their order but for the ranges. */
+/* Why tables are not sound: the clauses of crates/rules/specs/Sound.antt, in their order but for the ranges, and for the generations, which come
+ * behind the number of empty shelves: so the clauses of before keep their numbers. */
 #include "smc_explain.h"
 #include <stdbool.h>
 #include <stdio.h>
 
-enum { RANGES = 4, TRANSPORT = 1, STORAGE = 2, PORT = 3 };
+enum { RANGES = 4, TRANSPORT = 1, STORAGE = 2, PORT = 3, DRIVE = 4 };
 enum { HOSTS = 8, MOST_ELEMENTS = 512, MOST_TRANSPORTS = 127, MOST_VOLUMES = 512, MOST_KEY = 15, BEHIND_LAST = 65536 };
 enum { UNIT = 16, RECORDS = 18, RECORD_BYTES = 5 };
 
@@ -13,7 +14,7 @@ typedef struct {
 
 /* What the clauses read, once what they stand on is known to hold. */
 typedef struct {
-    const uint8_t *head, *elements;
+    const uint8_t *head, *elements, *generations, *masks;
     size_t volumes;
     range ranges[RANGES]; /* in the order of the head.. */
     range sorted[RANGES]; /* ..and of their addresses */
@@ -202,11 +203,39 @@ static smc_fault empty_shelves(const library *l)
     return number != count ? of_range(SMC_CLAUSE_EMPTY_SHELVES, 0, number, count) : none;
 }
 
+/* ---- the cartridges ---- */
+
+/* "generation 1 to 8 for each volume" */
+static smc_fault generations_of(const library *l)
+{
+    for (size_t volume = 1; volume <= l->volumes; volume++) {
+        const unsigned generation = l->generations[volume - 1];
+        if (generation < SMC_LEAST_GENERATION || generation > SMC_MOST_GENERATION)
+            return of_range(SMC_CLAUSE_GENERATION_NUMBER, 0, generation, volume);
+    }
+    return none;
+}
+
+/* "A table that already has an ill-fitting volume in a drive is not sound." */
+static smc_fault drives(const library *l)
+{
+    const uint8_t *mask = l->masks;
+    for (unsigned place = 0; place < l->count; place++) {
+        const unsigned volume = element_at(l, place).volume;
+        if (slot(l, place).kind != DRIVE)
+            continue;
+        if (volume != 0 && !(*mask & SMC_MASK_BIT(l->generations[volume - 1])))
+            return of_element(l, SMC_CLAUSE_DRIVE_TAKES, place, l->generations[volume - 1], *mask);
+        mask++;
+    }
+    return none;
+}
+
 /* ---- the whole ---- */
 
 smc_fault smc_explain(SMC_TABLES)
 {
-    library l = {.head = head, .elements = elements, .volumes = tags_len / SMC_TAG_SIZE};
+    library l = {.head = head, .elements = elements, .generations = generations, .masks = masks, .volumes = tags_len / SMC_TAG_SIZE};
     smc_fault found;
     (void)tags;
     (void)blank;
@@ -223,9 +252,15 @@ smc_fault smc_explain(SMC_TABLES)
         return of_range(SMC_CLAUSE_BLANK_LENGTH, 0, blank_len, 0);
     if (elements_len != (size_t)SMC_ELEMENT_SIZE * l.count)
         return of_range(SMC_CLAUSE_ELEMENTS_LENGTH, 0, elements_len, (uint64_t)SMC_ELEMENT_SIZE * l.count);
-    if ((found = elements_of(&l)).clause)
+    if ((found = elements_of(&l)).clause || (found = empty_shelves(&l)).clause)
         return found;
-    return empty_shelves(&l);
+    if (generations_len != l.volumes)
+        return of_range(SMC_CLAUSE_GENERATIONS_LENGTH, 0, generations_len, l.volumes);
+    if ((found = generations_of(&l)).clause)
+        return found;
+    if (masks_len != l.ranges[DRIVE - 1].count)
+        return of_range(SMC_CLAUSE_MASKS_LENGTH, 0, masks_len, l.ranges[DRIVE - 1].count);
+    return drives(&l);
 }
 
 /* ---- in words ---- */
@@ -264,6 +299,10 @@ static const struct {
     [SMC_CLAUSE_ZERO_BYTE] = {"the last byte of an element is 0", "byte", DECIMAL},
     [SMC_CLAUSE_VOLUME_TWICE] = {"a volume stands in one element at most", "volume", DECIMAL},
     [SMC_CLAUSE_EMPTY_SHELVES] = {"the head's last two bytes are the number of empty storage elements", "number", DECIMAL},
+    [SMC_CLAUSE_GENERATIONS_LENGTH] = {"there is a generation for each tag", "length", DECIMAL},
+    [SMC_CLAUSE_GENERATION_NUMBER] = {"a generation is 1 to 8", "generation", DECIMAL},
+    [SMC_CLAUSE_MASKS_LENGTH] = {"there is a mask for each drive", "length", DECIMAL},
+    [SMC_CLAUSE_DRIVE_TAKES] = {"a full drive takes its volume's generation", "generation", DECIMAL},
 };
 
 enum { CLAUSES = sizeof words / sizeof *words };
@@ -300,8 +339,13 @@ static void tell_other(const smc_fault *f, char *text, size_t size)
         snprintf(text, size, " and the %s range", range_names[other]);
     if (f->clause == SMC_CLAUSE_UNIT_HELD_ALONE)
         snprintf(text, size, ", and host %llu holds the unit", other);
-    if (f->clause == SMC_CLAUSE_ELEMENTS_LENGTH || f->clause == SMC_CLAUSE_EMPTY_SHELVES)
+    if (f->clause == SMC_CLAUSE_ELEMENTS_LENGTH || f->clause == SMC_CLAUSE_EMPTY_SHELVES || f->clause == SMC_CLAUSE_GENERATIONS_LENGTH
+        || f->clause == SMC_CLAUSE_MASKS_LENGTH)
         snprintf(text, size, " and not %llu", other);
+    if (f->clause == SMC_CLAUSE_GENERATION_NUMBER)
+        snprintf(text, size, " of volume %llu", other);
+    if (f->clause == SMC_CLAUSE_DRIVE_TAKES)
+        snprintf(text, size, ", and the mask is %02llXh", other);
     if (f->clause == SMC_CLAUSE_VOLUME_TWICE)
         snprintf(text, size, " stands in element %04llXh too", other);
 }

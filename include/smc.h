@@ -12,7 +12,7 @@
  *   alone change it, sent or replayed.
  * - Bytes of the answer past count are as they were. count is above 0 only for GOOD of REQUEST SENSE, READ ELEMENT STATUS
  *   and MODE SENSE.
- * - tags and blank are never written. Sound tables stay sound.
+ * - tags, blank, generations and masks are never written. Sound tables stay sound: no call leaves a volume in a drive that does not take it.
  *
  * What a caller owes:
  * - Each pointer is valid for its length: readable, and head, elements and answer writable. Length 0 asks nothing of its pointer.
@@ -39,8 +39,9 @@
 extern "C" {
 #endif
 
-/* The interface's version. It rises with each change that moves a layout, lends a further table or adds an entry. */
-#define SMC_INTERFACE 3
+/* The interface's version. It rises with each change that moves a layout, lends a further table or adds an entry. 4: every entry is lent two
+ * further tables behind blank, generations and masks. A front end that spreads an smc_tables by SMC_LEND sets the four new fields of it. */
+#define SMC_INTERFACE 4
 
 typedef struct {
     uint8_t number;     /* house number, 0 for none */
@@ -131,6 +132,12 @@ enum { SMC_TRANSPORT = 1, SMC_STORAGE = 2, SMC_IMPORT_EXPORT = 3, SMC_DRIVE = 4 
 #define SMC_TAG_SIZE 36
 #define SMC_MOST_VOLUMES 512
 
+/* The cartridges: a byte for each volume, its generation; a byte for each drive in order of address, the mask of the generations that it takes.
+ * A mask may have any value, 0 too: such a drive takes nothing. */
+#define SMC_LEAST_GENERATION 1
+#define SMC_MOST_GENERATION 8
+#define SMC_MASK_BIT(generation) (1u << ((generation) - 1))
+
 /* A descriptor of RESERVE's list. */
 #define SMC_LIST_DESCRIPTOR_SIZE 6
 #define SMC_LIST_NUMBER 2      /* two bytes */
@@ -185,10 +192,13 @@ enum { SMC_TRANSPORT = 1, SMC_STORAGE = 2, SMC_IMPORT_EXPORT = 3, SMC_DRIVE = 4 
 
 /* ---- What a call is lent. */
 
-/* The lent tables. No two of the lent slices overlap. head, elements and answer may change; tags and blank are read only. */
+/* The lent tables. No two of the lent slices overlap. head, elements and answer may change; the others are read only. generations has a byte for
+ * each volume, as many as there are tags; masks has one for each drive. A drive that is full takes the generation of what stands in it. Else the
+ * tables are not sound. */
 #define SMC_TABLES                                                                                                    \
     uint8_t *head, size_t head_len, uint8_t *elements, size_t elements_len, const uint8_t *tags, size_t tags_len,     \
-        const uint8_t *blank, size_t blank_len
+        const uint8_t *blank, size_t blank_len, const uint8_t *generations, size_t generations_len, const uint8_t *masks, \
+        size_t masks_len
 #define SMC_COMMAND                                                                                                   \
     uint32_t host, const uint8_t *block, size_t block_len, const uint8_t *parameters, size_t parameters_len,          \
         uint8_t *answer, size_t answer_len
@@ -204,10 +214,15 @@ typedef struct {
     size_t tags_len;
     const uint8_t *blank;
     size_t blank_len;
+    const uint8_t *generations;
+    size_t generations_len;
+    const uint8_t *masks;
+    size_t masks_len;
 } smc_tables;
 
 #define SMC_LEND(t)                                                                                                   \
-    (t)->head, (t)->head_len, (t)->elements, (t)->elements_len, (t)->tags, (t)->tags_len, (t)->blank, (t)->blank_len
+    (t)->head, (t)->head_len, (t)->elements, (t)->elements_len, (t)->tags, (t)->tags_len, (t)->blank, (t)->blank_len,  \
+        (t)->generations, (t)->generations_len, (t)->masks, (t)->masks_len
 
 /* ---- Commands. Numbers 1 to 5. */
 
@@ -235,11 +250,13 @@ smc_reply smc_prevent_allow(SMC_TABLES, SMC_COMMAND);
 
 /* With GOOD one volume has gone from source to destination. If it left a storage element, that one is named as its source from now on; if it
  * left a drive or an import/export element, it keeps the source that it had, none included. The number of empty storage elements in the head
- * goes with it. Any other end moves nothing. */
+ * goes with it. Any other end moves nothing. A drive that does not take the volume's generation is CHECK CONDITION with 5/30/12, once the source is
+ * known to be full and the destination empty. */
 smc_reply smc_move_medium(SMC_TABLES, SMC_COMMAND);
 
 /* With GOOD the first destination's volume is in the second, and the source's in the first: a swap, where the second is the source. Each
- * volume's source, and the number of empty storage elements, are as for a move. Any other end moves nothing. */
+ * volume's source, and the number of empty storage elements, are as for a move; so is 5/30/12, for either volume that would end in a drive. Any other end
+ * moves nothing. */
 smc_reply smc_exchange_medium(SMC_TABLES, SMC_COMMAND);
 
 /* Returns a listing, in whole descriptors as many as the allocation has room for. Its counts are of all that was chosen, however small
@@ -253,7 +270,7 @@ smc_reply smc_mode_sense(SMC_TABLES, SMC_COMMAND);
 /* ---- Events. Their status and count are 0, and they know no reservation. */
 
 /* A person put a volume into an import/export element. Numbers 1, 6, 7, 8, 9. It stands there with mark 1 and without a source; each host
- * that has no attention pending has 28h/01h. */
+ * that has no attention pending has 28h/01h. Any generation may come in, also one that no drive takes. */
 smc_reply smc_import(SMC_TABLES, uint32_t address, uint32_t volume);
 
 /* A person took the volume out. Numbers 1, 6, 7, 8. The element is empty; attention as for import. */

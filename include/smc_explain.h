@@ -40,7 +40,11 @@ typedef enum {
     SMC_CLAUSE_UNIT_HELD_ALONE,    /* element; value: the holder; other: the unit holder */
     SMC_CLAUSE_ZERO_BYTE,          /* element; value: the byte */
     SMC_CLAUSE_VOLUME_TWICE,       /* element; value: the volume number; other: the address of the element where it stands before */
-    SMC_CLAUSE_EMPTY_SHELVES       /* value: the number in the head; other: how many storage elements are empty */
+    SMC_CLAUSE_EMPTY_SHELVES,      /* value: the number in the head; other: how many storage elements are empty */
+    SMC_CLAUSE_GENERATIONS_LENGTH, /* value: the length; other: how many tags there are */
+    SMC_CLAUSE_GENERATION_NUMBER,  /* value: the generation; other: the volume number */
+    SMC_CLAUSE_MASKS_LENGTH,       /* value: the length; other: how many drives there are */
+    SMC_CLAUSE_DRIVE_TAKES         /* element, a full drive; value: its volume's generation; other: its mask, which lacks it */
 } smc_clause;
 
 /* The first clause that fails, and where. What a clause does not speak of is 0. */

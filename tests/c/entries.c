@@ -10,6 +10,7 @@ _Static_assert(SMC_HEAD_SIZE == SMC_HEAD_FREE + 2, "the number of empty storage 
 _Static_assert(SMC_TAGGED_DESCRIPTOR_SIZE == SMC_PLAIN_DESCRIPTOR_SIZE + SMC_TAG_SIZE, "a descriptor");
 _Static_assert(SMC_LARGEST_ANSWER == SMC_LISTING_HEADER_SIZE + SMC_RANGES * SMC_PAGE_HEADER_SIZE
                    + SMC_MOST_ELEMENTS * SMC_TAGGED_DESCRIPTOR_SIZE, "the largest answer");
+_Static_assert(SMC_MASK_BIT(SMC_LEAST_GENERATION) == 0x01 && SMC_MASK_BIT(SMC_MOST_GENERATION) == 0x80, "a mask");
 _Static_assert(SMC_LARGEST_MODE_ANSWER == UINT8_MAX, "the largest allocation of MODE SENSE");
 _Static_assert(sizeof(smc_reply) == 8, "the reply");
 _Static_assert(sizeof(smc_replayed) == 24 && offsetof(smc_replayed, place) == 8 && offsetof(smc_replayed, expected) == 16, "what a replay ends with");
@@ -24,11 +25,13 @@ LENT(head, SMC_HEAD_SIZE);
 LENT(elements, 7 * SMC_ELEMENT_SIZE);
 LENT(tags, 3 * SMC_TAG_SIZE);
 LENT(blank, SMC_TAG_SIZE);
+LENT(generations, 3);
+LENT(masks, 1);
 LENT(answer, 512);
 LENT(log_lent, 1024);
 
 static uint8_t head_before[SMC_HEAD_SIZE], elements_before[7 * SMC_ELEMENT_SIZE], answer_before[512];
-static uint8_t tags_before[3 * SMC_TAG_SIZE], blank_before[SMC_TAG_SIZE];
+static uint8_t tags_before[3 * SMC_TAG_SIZE], blank_before[SMC_TAG_SIZE], generations_before[3], masks_before[1];
 static int passed, failed;
 
 static const smc_tables lent = {
@@ -40,6 +43,10 @@ static const smc_tables lent = {
     .tags_len = 3 * SMC_TAG_SIZE,
     .blank = blank_room + GUARD,
     .blank_len = SMC_TAG_SIZE,
+    .generations = generations_room + GUARD,
+    .generations_len = 3,
+    .masks = masks_room + GUARD,
+    .masks_len = 1,
 };
 static const smc_tables nothing;
 
@@ -75,7 +82,8 @@ static int guarded(const uint8_t *room, size_t size)
     return 1;
 }
 
-/* "Transport 0001h, import/export 0010h, drive 0100h, storage 1000h to 1003h. Volume 1 at 1000h, 2 at 1002h". */
+/* "Transport 0001h, import/export 0010h, drive 0100h, storage 1000h to 1003h. Volume 1 at 1000h, 2 at 1002h"; "both volumes are of generation 1 and the
+ * drive takes it". */
 static void small_library(void)
 {
     static const unsigned ranges[4][2] = {{0x0001, 1}, {0x1000, 4}, {0x0010, 1}, {0x0100, 1}};
@@ -83,6 +91,8 @@ static void small_library(void)
     guard(elements_room, 7 * SMC_ELEMENT_SIZE, 0);
     guard(tags_room, 3 * SMC_TAG_SIZE, 0x41);
     guard(blank_room, SMC_TAG_SIZE, 0x20);
+    guard(generations_room, 3, 1);
+    guard(masks_room, 1, 0x01);
     guard(answer_room, 512, 0xEE);
     for (int k = 0; k < 4; k++) {
         put16(head + 4 * k, ranges[k][0]);
@@ -100,15 +110,20 @@ static void remember(void)
     memcpy(answer_before, answer, sizeof answer_before);
     memcpy(tags_before, tags, sizeof tags_before);
     memcpy(blank_before, blank, sizeof blank_before);
+    memcpy(generations_before, generations, sizeof generations_before);
+    memcpy(masks_before, masks, sizeof masks_before);
 }
 
-/* What holds of every call: no canary touched, labels as they were, buffer as it was past the count. */
+/* What holds of every call: no canary touched, labels, generations and masks as they were, buffer as it was past the count. */
 static void always(const char *call, smc_reply reply)
 {
     expect(guarded(head_room, SMC_HEAD_SIZE) && guarded(elements_room, 7 * SMC_ELEMENT_SIZE)
-               && guarded(tags_room, 3 * SMC_TAG_SIZE) && guarded(blank_room, SMC_TAG_SIZE) && guarded(answer_room, 512),
+               && guarded(tags_room, 3 * SMC_TAG_SIZE) && guarded(blank_room, SMC_TAG_SIZE) && guarded(generations_room, 3)
+               && guarded(masks_room, 1) && guarded(answer_room, 512),
            call, "a byte outside a lent slice changed");
     expect(!memcmp(tags, tags_before, sizeof tags_before) && !memcmp(blank, blank_before, sizeof blank_before), call, "a label changed");
+    expect(!memcmp(generations, generations_before, sizeof generations_before) && !memcmp(masks, masks_before, sizeof masks_before), call,
+           "a generation or a mask changed");
     expect(reply.count <= 512 && !memcmp(answer + reply.count, answer_before + reply.count, 512 - reply.count), call,
            "a byte of the answer past the count changed");
 }
@@ -322,7 +337,7 @@ static void mode_of_many_transports(void)
         put16(arms_head + 6, 1);
         put16(arms_head + SMC_HEAD_FREE, 1);
         smc_reply reply = smc_mode_sense(arms_head, SMC_HEAD_SIZE, arms, (count + 1) * SMC_ELEMENT_SIZE, tags, 3 * SMC_TAG_SIZE,
-                                         blank, SMC_TAG_SIZE, 1, block, 6, NULL, 0, answer, 512);
+                                         blank, SMC_TAG_SIZE, generations, 3, NULL, 0, 1, block, 6, NULL, 0, answer, 512);
         ended("mode, many transports", reply, rows[i].status, rows[i].count);
         expect(arms_head[SMC_HOST_AT(1)] == (rows[i].status == SMC_GOOD ? 0 : 5), "mode, many transports", "another sense");
         if (rows[i].page == 0x1E && rows[i].count > 0)
@@ -395,6 +410,106 @@ static void empty_shelves(void)
         put16(head + SMC_HEAD_FREE, wrong[i]);
         refused("another number", send(smc_test_unit_ready, 1, ready, 6), SMC_TABLES_NOT_SOUND);
         refused("another number", smc_import(TABLES, 0x0010, 3), SMC_TABLES_NOT_SOUND);
+    }
+}
+
+/* ---- Document 02, Six. */
+
+static const uint8_t to_drive[12] = {0xA5, 0, 0, 0, 0x10, 0x02, 0x01, 0x00}, by_drive[12] = {0xA6, 0, 0, 0, 0x10, 0x00, 0x01, 0x00, 0x10, 0x01};
+static const uint8_t into_drive[12] = {0xA6, 0, 0, 0, 0x10, 0x00, 0x10, 0x02, 0x01, 0x00}, back_in_drive[12] = {0xA6, 0, 0, 0, 0x01, 0x00, 0x10, 0x02, 0x01, 0x00};
+
+/* The small library, with these generations of volumes 1 and 2 and this mask; if it is to be full, volume 3, of generation 1, stands in the drive. */
+static void cartridges_are(uint8_t one, uint8_t two, uint8_t mask, int full)
+{
+    small_library();
+    generations[0] = one;
+    generations[1] = two;
+    masks[0] = mask;
+    put16(elements + 2 * SMC_ELEMENT_SIZE, full ? 3 : 0);
+}
+
+static void not_taken(const char *call, entry to, const uint8_t *block)
+{
+    ended(call, send(to, 1, block, 12), SMC_CHECK_CONDITION, 0);
+    sense_is(call, 1, 5, 0x30, 0x12);
+    expect(!memcmp(elements, elements_before, sizeof elements_before), call, "a refusal moved a volume");
+    free_is(call, 2);
+}
+
+/* Each leg that ends in a drive, taken and not; a shelf takes anything. */
+static void cartridges(void)
+{
+    for (uint8_t g = SMC_LEAST_GENERATION; g <= SMC_MOST_GENERATION; g++) {
+        cartridges_are(g, 1, (uint8_t)SMC_MASK_BIT(g), 0);
+        ended("taken", send(smc_move_medium, 1, p1, 12), SMC_GOOD, 0);
+        element_is("taken", 2, 1, 0x1000, 0, 0, 0);
+        cartridges_are(g, 1, (uint8_t)~SMC_MASK_BIT(g), 0);
+        not_taken("not taken", smc_move_medium, p1);
+    }
+    cartridges_are(1, 2, 0x01, 0);
+    not_taken("another volume's generation", smc_move_medium, to_drive);
+    cartridges_are(2, 2, 0x00, 0);
+    ended("shelves take anything", send(smc_exchange_medium, 1, p7, 12), SMC_GOOD, 0);
+    cartridges_are(2, 1, 0x01, 1);
+    not_taken("first leg", smc_exchange_medium, by_drive);
+    cartridges_are(2, 1, 0x03, 1);
+    ended("first leg, taken", send(smc_exchange_medium, 1, by_drive, 12), SMC_GOOD, 0);
+    cartridges_are(1, 2, 0x01, 0);
+    not_taken("second leg", smc_exchange_medium, into_drive);
+    cartridges_are(1, 2, 0x02, 0);
+    ended("second leg, taken", send(smc_exchange_medium, 1, into_drive, 12), SMC_GOOD, 0);
+    element_is("second leg, taken", 2, 2, 0x1002, 0, 0, 0);
+    cartridges_are(1, 2, 0x01, 1);
+    not_taken("back into the drive", smc_exchange_medium, back_in_drive);
+    cartridges_are(1, 2, 0x03, 1);
+    ended("back into the drive, taken", send(smc_exchange_medium, 1, back_in_drive, 12), SMC_GOOD, 0);
+    element_is("back into the drive, taken", 2, 2, 0x1002, 0, 0, 0);
+}
+
+/* Full comes first, and 18h; import takes anything. */
+static void order_of_cartridges(void)
+{
+    cartridges_are(2, 1, 0x01, 1);
+    ended("full first", send(smc_move_medium, 1, p1, 12), SMC_CHECK_CONDITION, 0);
+    sense_is("full first", 1, 5, 0x3B, 0x0D);
+    elements[SMC_ELEMENT_HOLDER] = 2;
+    ended("held first", send(smc_move_medium, 1, p1, 12), SMC_RESERVATION_CONFLICT, 0);
+    cartridges_are(1, 1, 0x01, 0);
+    generations[2] = 8;
+    remember();
+    ended("import of any generation", smc_import(TABLES, 0x0010, 3), SMC_GOOD, 0);
+    element_is("import of any generation", 1, 3, 0, 0, 0, 1);
+}
+
+/* A byte more or fewer, generations 0 and 9, and a volume in a drive that does not take it: no entry serves. */
+static void unfit_tables(void)
+{
+    static const struct {
+        uint8_t one, three, mask;
+        int full;
+        size_t generations_len, masks_len;
+        int number;
+    } rows[] = {{1, 1, 0x01, 0, 3, 1, 0}, {1, 1, 0x00, 0, 3, 1, 0}, {1, 1, 0xFF, 1, 3, 1, 0}, {8, 8, 0x80, 1, 3, 1, 0}, {1, 1, 0x01, 0, 2, 1, 1},
+                {1, 1, 0x01, 0, 0, 1, 1}, {1, 1, 0x01, 0, 3, 0, 1}, {0, 1, 0x01, 0, 3, 1, 1}, {9, 1, 0x01, 0, 3, 1, 1}, {255, 1, 0x01, 0, 3, 1, 1},
+                {1, 0, 0x01, 0, 3, 1, 1}, {1, 9, 0x01, 0, 3, 1, 1}, {1, 1, 0x00, 1, 3, 1, 1}, {1, 1, 0xFE, 1, 3, 1, 1}, {1, 2, 0x01, 1, 3, 1, 1},
+                {1, 8, 0x7F, 1, 3, 1, 1}};
+    for (size_t i = 0; i < sizeof rows / sizeof *rows; i++) {
+        smc_tables t = lent;
+        cartridges_are(rows[i].one, 1, rows[i].mask, rows[i].full);
+        generations[2] = rows[i].three;
+        t.generations_len = rows[i].generations_len;
+        t.masks_len = rows[i].masks_len;
+        remember();
+        if (rows[i].number == 0) {
+            ended("fit tables", smc_command(SMC_LEND(&t), 1, ready, 6, NULL, 0, answer, 512), SMC_GOOD, 0);
+            continue;
+        }
+        refused("unfit tables", smc_command(SMC_LEND(&t), 1, ready, 6, NULL, 0, answer, 512), SMC_TABLES_NOT_SOUND);
+        refused("unfit tables", smc_move_medium(SMC_LEND(&t), 1, p1, 12, NULL, 0, answer, 512), SMC_TABLES_NOT_SOUND);
+        refused("unfit tables", smc_import(SMC_LEND(&t), 0x0010, 3), SMC_TABLES_NOT_SOUND);
+        refused("unfit tables", smc_export(SMC_LEND(&t), 0x0010), SMC_TABLES_NOT_SOUND);
+        refused("unfit tables", smc_reset(SMC_LEND(&t)), SMC_TABLES_NOT_SOUND);
+        expect(smc_replay(SMC_LEND(&t), NULL, 0, 1, 1).number == SMC_TABLES_NOT_SOUND && untouched(), "unfit tables", "a replay");
     }
 }
 
@@ -503,6 +618,10 @@ static void replays(void)
     expect(untouched(), "a bad line again", "it changed a byte");
     REPLAY("going on", AGAIN LOADED, 11, 9, 0, 2, 48, 13);
     element_is("going on", 2, 3, 0x1001, 0, 0, 0);
+    cartridges_are(2, 1, 0x01, 0);
+    REPLAY("a cartridge not taken", "7\t1\tA50000001000010000000000\t\n", 7, 9, 0, 1, 30, 8);
+    sense_is("a cartridge not taken", 1, 5, 0x30, 0x12);
+    element_is("a cartridge not taken", 3, 1, 0, 0, 0, 0);
     small_library();
     REPLAY("up to the bad line", bad, 8, 3, 0, 3, 65, 11);
     REPLAY("no budget", "x", 7, 0, 0, 0, 0, 7);
@@ -606,6 +725,9 @@ int main(void)
     mode_of_many_transports();
     last_shelf();
     empty_shelves();
+    cartridges();
+    order_of_cartridges();
+    unfit_tables();
     reservations();
     events();
     replays();

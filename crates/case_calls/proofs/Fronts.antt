@@ -27,6 +27,10 @@ module _ (xs : List ℕ) (n k : ℕ) (e : k ≡ min n (length xs)) (filled : Lis
       → take n (putMid 0 (k - 0) (putMid 0 (k - 0) xs filled) ys) ≡ ys
   answered ys l = given (putMid 0 (k - 0) xs filled) n k again ys l
 
+  pub as-much : (ys : List ℕ) → length ys ≡ length (take (k - 0) (drop 0 (putMid 0 (k - 0) xs filled)))
+      → length (putMid 0 (k - 0) (putMid 0 (k - 0) xs filled) ys) ≡ length xs
+  as-much ys l = same-len-mid 0 (k - 0) (putMid 0 (k - 0) xs filled) ys l ∙ same-len-mid 0 (k - 0) xs filled as-long
+
 -- the outcome of a call on what was lent is that of the call on what was meant
 pub carried : (w f s host : ℕ) (r : Reply) (block head head′ elements elements′ answer answer′ h h′ es es′ ps ps′ buffer buffer′ : List ℕ) (rest rest′ : Rest)
     → head′ ≡ head → elements′ ≡ elements → answer′ ≡ answer → h ≡ h′ → es ≡ es′ → rest ≡ rest′ → ps ≡ ps′ → buffer ≡ buffer′

@@ -40,6 +40,8 @@ fn made(
         &mut elements[0..e],
         case_rooms::part(room, parts::TAGS_AT, sizes[parts::TAGS]),
         case_rooms::part(room, parts::BLANK_AT, sizes[parts::BLANK]),
+        case_rooms::part(room, parts::GENERATIONS_AT, sizes[parts::GENERATIONS]),
+        case_rooms::part(room, parts::MASKS_AT, sizes[parts::MASKS]),
         block,
         case_rooms::part(room, parts::PARAMETERS_AT, state.parameters),
         &mut answer[0..b],

@@ -16,20 +16,42 @@ pub fn enter<'a>(
     elements: &mut [u8],
     tags: &'a [u8],
     blank: &'a [u8],
+    generations: &'a [u8],
+    masks: &'a [u8],
     block: &[u8],
     parameters: &[u8],
     answer: &mut [u8],
 ) -> Reply
-    ensures { λ r. ⌜ ended r (lent (now (head .exit)) (now (elements .exit)) (others (now (tags .entry)) (now (blank .entry)))) (now (answer .exit)) ≡ called what first second (lent (now (head .entry)) (now (elements .entry)) (others (now (tags .entry)) (now (blank .entry)))) host (now (block .entry)) (now (parameters .entry)) (now (answer .entry)) ⌝ }
+    ensures { λ r. ⌜ ended r (lent (now (head .exit)) (now (elements .exit)) (others (now (tags .entry)) (now (blank .entry)) (now (generations .entry)) (now (masks .entry)))) (now (answer .exit)) ≡ called what first second (lent (now (head .entry)) (now (elements .entry)) (others (now (tags .entry)) (now (blank .entry)) (now (generations .entry)) (now (masks .entry)))) host (now (block .entry)) (now (parameters .entry)) (now (answer .entry)) ⌝ }
 {
     if what == word::COMMAND {
-        return changer::smc_command(head, elements, tags, blank, host, block, parameters, answer);
+        return changer::smc_command(
+            head,
+            elements,
+            tags,
+            blank,
+            generations,
+            masks,
+            host,
+            block,
+            parameters,
+            answer,
+        );
     }
     if what == word::IMPORT {
-        return changer::smc_import(head, elements, tags, blank, first, second);
+        return changer::smc_import(
+            head,
+            elements,
+            tags,
+            blank,
+            generations,
+            masks,
+            first,
+            second,
+        );
     }
     if what == word::EXPORT {
-        return changer::smc_export(head, elements, tags, blank, first);
+        return changer::smc_export(head, elements, tags, blank, generations, masks, first);
     }
-    changer::smc_reset(head, elements, tags, blank)
+    changer::smc_reset(head, elements, tags, blank, generations, masks)
 }

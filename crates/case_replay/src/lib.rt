@@ -34,6 +34,8 @@ fn made(
         &mut elements[0..e],
         case_rooms::part(room, parts::TAGS_AT, sizes[parts::TAGS]),
         case_rooms::part(room, parts::BLANK_AT, sizes[parts::BLANK]),
+        case_rooms::part(room, parts::GENERATIONS_AT, sizes[parts::GENERATIONS]),
+        case_rooms::part(room, parts::MASKS_AT, sizes[parts::MASKS]),
         case_rooms::part(whole, at, whole.len()),
         expected,
         budget,

@@ -4,13 +4,14 @@ use mathlib.Core.List.{List}
 use lib.ListN.{take, drop}
 use Rattle.rules.specs.Tables.{Tables, lent, others}
 use Rattle.case_rooms.specs.declared.State.{State}
-use Rattle.case_rooms.specs.Parts.{part, lengthOf, HEAD, ELEMENTS, TAGS, BLANK, tagsAt, blankAt, logAt}
+use Rattle.case_rooms.specs.Parts.{part, lengthOf, HEAD, ELEMENTS, TAGS, BLANK, GENERATIONS, MASKS, tagsAt, blankAt, generationsAt, masksAt, logAt}
 
 -- the tables of a case as they lie: head and elements at the front of the copies that a call changes, the others in the room
 abbrev pub lying : State → List ℕ → List ℕ → List ℕ → Tables
 lying s head elements room =
     lent (take (lengthOf (s .sizes) HEAD) head) (take (lengthOf (s .sizes) ELEMENTS) elements)
-    (others (part room tagsAt (lengthOf (s .sizes) TAGS)) (part room blankAt (lengthOf (s .sizes) BLANK)))
+    (others (part room tagsAt (lengthOf (s .sizes) TAGS)) (part room blankAt (lengthOf (s .sizes) BLANK))
+    (part room generationsAt (lengthOf (s .sizes) GENERATIONS)) (part room masksAt (lengthOf (s .sizes) MASKS)))
 
 -- the log of a case, from a place of it on
 abbrev pub logFrom : State → ℕ → List ℕ → List ℕ

@@ -25,6 +25,12 @@ TAGS = 2
 abbrev pub BLANK : ℕ
 BLANK = 3
 
+abbrev pub GENERATIONS : ℕ
+GENERATIONS = 4
+
+abbrev pub MASKS : ℕ
+MASKS = 5
+
 -- where what a call reads begins in the room: each part behind the one before it
 abbrev pub elementsAt : ℕ
 elementsAt = headSize + 6
@@ -35,8 +41,14 @@ tagsAt = elementsAt + elementSize * 544
 abbrev pub blankAt : ℕ
 blankAt = tagsAt + tagSize * 517
 
+abbrev pub generationsAt : ℕ
+generationsAt = blankAt + (tagSize + 28)
+
+abbrev pub masksAt : ℕ
+masksAt = generationsAt + 517
+
 abbrev pub parametersAt : ℕ
-parametersAt = blankAt + (tagSize + 28)
+parametersAt = masksAt + 544
 
 abbrev pub logAt : ℕ
 logAt = parametersAt + 1024

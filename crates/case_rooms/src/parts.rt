@@ -11,7 +11,11 @@ pub const TAGS: usize = 2;
 
 pub const BLANK: usize = 3;
 
-pub const TABLES: usize = 4;
+pub const GENERATIONS: usize = 4;
+
+pub const MASKS: usize = 5;
+
+pub const TABLES: usize = 6;
 
 // How many bytes each part may have: a table somewhat more than a sound one, so that refusals of large tables can be shown.
 pub const HEAD_MOST: usize = layout::HEAD_SIZE + 6;
@@ -21,6 +25,10 @@ pub const ELEMENTS_MOST: usize = layout::ELEMENT_SIZE * (layout::MOST_ELEMENTS +
 pub const TAGS_MOST: usize = layout::TAG_SIZE * (layout::MOST_VOLUMES + 5);
 
 pub const BLANK_MOST: usize = layout::TAG_SIZE + 28;
+
+pub const GENERATIONS_MOST: usize = layout::MOST_VOLUMES + 5;
+
+pub const MASKS_MOST: usize = layout::MOST_ELEMENTS + 32;
 
 pub const PARAMETERS_MOST: usize = 1024;
 
@@ -37,7 +45,11 @@ pub const TAGS_AT: usize = ELEMENTS_AT + ELEMENTS_MOST;
 
 pub const BLANK_AT: usize = TAGS_AT + TAGS_MOST;
 
-pub const PARAMETERS_AT: usize = BLANK_AT + BLANK_MOST;
+pub const GENERATIONS_AT: usize = BLANK_AT + BLANK_MOST;
+
+pub const MASKS_AT: usize = GENERATIONS_AT + GENERATIONS_MOST;
+
+pub const PARAMETERS_AT: usize = MASKS_AT + MASKS_MOST;
 
 pub const LOG_AT: usize = PARAMETERS_AT + PARAMETERS_MOST;
 
@@ -65,7 +77,13 @@ pub fn begin_of(table: usize) -> usize
     if table == TAGS {
         return TAGS_AT;
     }
-    BLANK_AT
+    if table == BLANK {
+        return BLANK_AT;
+    }
+    if table == GENERATIONS {
+        return GENERATIONS_AT;
+    }
+    MASKS_AT
 }
 
 // How many bytes it may have.
@@ -81,5 +99,11 @@ pub fn most_of(table: usize) -> usize
     if table == TAGS {
         return TAGS_MOST;
     }
-    BLANK_MOST
+    if table == BLANK {
+        return BLANK_MOST;
+    }
+    if table == GENERATIONS {
+        return GENERATIONS_MOST;
+    }
+    MASKS_MOST
 }

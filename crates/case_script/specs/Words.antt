@@ -2,52 +2,52 @@
 use Prim.Native.Nat.{ℕ}
 
 abbrev pub LOG : ℕ
-LOG = 17
+LOG = 19
 
 abbrev pub COMMAND : ℕ
-COMMAND = 19
+COMMAND = 21
 
 abbrev pub IMPORT : ℕ
-IMPORT = 20
+IMPORT = 22
 
 abbrev pub EXPORT : ℕ
-EXPORT = 21
+EXPORT = 23
 
 abbrev pub NUMBER : ℕ
-NUMBER = 25
+NUMBER = 27
 
 abbrev pub STATUS : ℕ
-STATUS = 26
+STATUS = 28
 
 abbrev pub COUNT : ℕ
-COUNT = 27
+COUNT = 29
 
 abbrev pub PREVENTERS : ℕ
-PREVENTERS = 28
+PREVENTERS = 30
 
 abbrev pub LINES : ℕ
-LINES = 30
+LINES = 32
 
 abbrev pub PLACE : ℕ
-PLACE = 31
+PLACE = 33
 
 abbrev pub VOLUME : ℕ
-VOLUME = 34
+VOLUME = 36
 
 abbrev pub SOURCE : ℕ
-SOURCE = 35
+SOURCE = 37
 
 abbrev pub HOLDER : ℕ
-HOLDER = 36
+HOLDER = 38
 
 abbrev pub ID : ℕ
-ID = 37
+ID = 39
 
 abbrev pub UNIT : ℕ
-UNIT = 39
+UNIT = 41
 
 abbrev pub MASK : ℕ
-MASK = 40
+MASK = 42
 
 abbrev pub SENSE : ℕ
-SENSE = 42
+SENSE = 44

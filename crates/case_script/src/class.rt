@@ -39,17 +39,17 @@ pub const TABLE: u8 = b't';
 pub const KEPT: u8 = b's';
 
 // The number of the last word.
-pub const LAST: u8 = 48;
+pub const LAST: u8 = 52;
 
 // A letter for each number of a word from 0 on.
-const CLASSES: [u8; 49] = *b"\
-    ?cwwrrrrlvllll\
+const CLASSES: [u8; 53] = *b"\
+    ?cwwrrrrlvllllll\
     pppppkkkkgg\
     yyyyyoooa\
-    eeeeeuuuhhtttts";
+    eeeeeuuuhhtttttts";
 
 // Which table a word of the classes `l` and `t` speaks of, and which range one of the class `r`, from 0 on.
-const WHICH: [u8; 49] = [
+const WHICH: [u8; 53] = [
     0,
     0,
     0,
@@ -64,6 +64,8 @@ const WHICH: [u8; 49] = [
     1,
     2,
     3,
+    4,
+    5,
     0,
     0,
     0,
@@ -98,6 +100,8 @@ const WHICH: [u8; 49] = [
     1,
     2,
     3,
+    4,
+    5,
     0,
 ];
 

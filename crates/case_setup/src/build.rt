@@ -10,6 +10,11 @@ use case_script::fault;
 use case_script::word;
 ghost use Prim.Native.Nat.{_≤_};
 
+// A new volume is of generation 1, and a new drive takes that one: bit 0.
+const FIRST_GENERATION: u8 = 1;
+
+const TAKES_FIRST: u8 = 0x01;
+
 // "the record of a volume in the tag table"
 fn label(state: State, volume: u32, room: &mut [u8], bytes: &[u8]) -> Effect {
     if bytes.len() != layout::TAG_SIZE {
@@ -26,8 +31,8 @@ fn label(state: State, volume: u32, room: &mut [u8], bytes: &[u8]) -> Effect {
     case_rooms::done(state)
 }
 
-// How long the tables are that have n elements and v volumes; what is not named here is empty.
-fn sized(state: State, n: usize, v: usize) -> Effect
+// How long the tables are that have n elements, v volumes and d drives; what is not named here is empty.
+fn sized(state: State, n: usize, v: usize, d: usize) -> Effect
     requires { ⌜ (n ≤ 7) × (v ≤ 3) ⌝ }
 {
     let mut s = state;
@@ -35,7 +40,9 @@ fn sized(state: State, n: usize, v: usize) -> Effect
     s = case_rooms::resized(s, parts::HEAD, layout::HEAD_SIZE);
     s = case_rooms::resized(s, parts::ELEMENTS, layout::ELEMENT_SIZE * n);
     s = case_rooms::resized(s, parts::TAGS, layout::TAG_SIZE * v);
-    case_rooms::done(case_rooms::resized(s, parts::BLANK, layout::TAG_SIZE))
+    s = case_rooms::resized(s, parts::BLANK, layout::TAG_SIZE);
+    s = case_rooms::resized(s, parts::GENERATIONS, v);
+    case_rooms::done(case_rooms::resized(s, parts::MASKS, d))
 }
 
 // "a head of 60 zeros, .. a blank label of 36 blanks"
@@ -78,20 +85,27 @@ fn small_labels(room: &mut [u8]) {
     letters(room, 2, b'C');
 }
 
+// "both volumes are of generation 1 and the drive takes it"; the third, which is not in, is of it too
+fn small_generations(room: &mut [u8]) {
+    case_rooms::paint(room, parts::GENERATIONS_AT, 3, FIRST_GENERATION);
+    case_rooms::paint(room, parts::MASKS_AT, 1, TAKES_FIRST);
+}
+
 fn small(room: &mut [u8]) {
     empty(room);
     small_elements(room);
     small_labels(room);
+    small_generations(room);
 }
 
 // The tables as a whole.
 fn whole(state: State, what: u8, room: &mut [u8]) -> Effect {
     if what == word::TABLES_SMALL {
         small(room);
-        return sized(state, 7, 3);
+        return sized(state, 7, 3, 1);
     }
     empty(room);
-    sized(state, 0, 0)
+    sized(state, 0, 0, 0)
 }
 
 // "The element table is then made anew: an empty element for each address of the four ranges."
@@ -138,23 +152,61 @@ fn range(k: usize, first: u32, count: u32, length: usize, room: &mut [u8]) -> Le
     anew(length, room)
 }
 
-// "the table's length in bytes"; "the tag table has V records"
-fn length_asked(line: Line) -> usize {
-    let n = line.first as usize;
-    if line.word == word::VOLUMES {
-        return layout::TAG_SIZE * n;
+// How many drives there are: as many as the fourth range counts.
+fn drives(room: &[u8]) -> usize {
+    if room.len() < layout::HEAD_SIZE {
+        return 0;
     }
-    n
+    wire::word_at(room, layout::RANGE_SIZE * 3 + layout::RANGE_COUNT) as usize
 }
 
+// A range line: the masks are made anew with the elements, one for each drive.
+fn ranged(state: State, line: Line, room: &mut [u8]) -> Effect {
+    let length = case_rooms::length_of(state, parts::HEAD);
+    match range(
+        class::which(line.word),
+        line.first,
+        line.second,
+        length,
+        room,
+    ) {
+        Length::Fault(why) => case_rooms::refuse(state, why),
+        Length::Is(n) => {
+            let s = case_rooms::resized(state, parts::ELEMENTS, n);
+            let d = drives(room);
+            table::with(
+                s,
+                parts::MASKS,
+                table::resize(parts::MASKS, 0, d, TAKES_FIRST, room),
+            )
+        }
+    }
+}
+
+// "the tag table has V records; new ones are zeros", and a new volume is of generation 1
+fn volumes(state: State, count: u32, room: &mut [u8]) -> Effect {
+    let v = count as usize;
+    let tags = case_rooms::length_of(state, parts::TAGS);
+    let known = case_rooms::length_of(state, parts::GENERATIONS);
+    match table::resize(parts::TAGS, tags, layout::TAG_SIZE * v, 0, room) {
+        Length::Fault(why) => case_rooms::refuse(state, why),
+        Length::Is(n) => table::with(
+            case_rooms::resized(state, parts::TAGS, n),
+            parts::GENERATIONS,
+            table::resize(parts::GENERATIONS, known, v, FIRST_GENERATION, room),
+        ),
+    }
+}
+
+// "the table's length in bytes"
 fn lengthen(state: State, line: Line, room: &mut [u8]) -> Effect {
+    if line.word == word::VOLUMES {
+        return volumes(state, line.first, room);
+    }
     let what = class::which(line.word);
     let length = case_rooms::length_of(state, what);
-    table::with(
-        state,
-        what,
-        table::resize(what, length, length_asked(line), room),
-    )
+    let n = line.first as usize;
+    table::with(state, what, table::resize(what, length, n, 0, room))
 }
 
 pub fn build(state: State, line: Line, room: &mut [u8], bytes: &[u8]) -> Effect {
@@ -164,12 +216,7 @@ pub fn build(state: State, line: Line, room: &mut [u8], bytes: &[u8]) -> Effect 
         return whole(state, what, room);
     }
     if class == class::RANGE {
-        let length = case_rooms::length_of(state, parts::HEAD);
-        return table::with(
-            state,
-            parts::ELEMENTS,
-            range(class::which(what), line.first, line.second, length, room),
-        );
+        return ranged(state, line, room);
     }
     if class == class::LABEL {
         return label(state, line.first, room, bytes);

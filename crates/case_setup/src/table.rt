@@ -17,13 +17,13 @@ pub fn with(state: State, table: usize, length: Length) -> Effect {
     }
 }
 
-// "the table's length in bytes; what is added is zeros": a table of `length` bytes gets n.
-pub fn resize(table: usize, length: usize, n: usize, room: &mut [u8]) -> Length {
+// "the table's length in bytes; what is added is zeros", or another byte: a table of `length` bytes gets n.
+pub fn resize(table: usize, length: usize, n: usize, added: u8, room: &mut [u8]) -> Length {
     if parts::most_of(table) < n {
         return Length::Fault(fault::TOO_LARGE);
     }
     if length < n {
-        case_rooms::paint(room, parts::begin_of(table) + length, n - length, 0);
+        case_rooms::paint(room, parts::begin_of(table) + length, n - length, added);
     }
     Length::Is(n)
 }

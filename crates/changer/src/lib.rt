@@ -16,14 +16,27 @@ pub extern "C" fn smc_command<'a>(
     elements: &mut [u8],
     tags: &'a [u8],
     blank: &'a [u8],
+    generations: &'a [u8],
+    masks: &'a [u8],
     host: u32,
     block: &[u8],
     parameters: &[u8],
     answer: &mut [u8],
 ) -> Reply
-    ensures { λ r. ⌜ ended r (lent (now (head .exit)) (now (elements .exit)) (others (now (tags .entry)) (now (blank .entry)))) (now (answer .exit)) ≡ command (lent (now (head .entry)) (now (elements .entry)) (others (now (tags .entry)) (now (blank .entry)))) host (now (block .entry)) (now (parameters .entry)) (now (answer .entry)) ⌝ }
+    ensures { λ r. ⌜ ended r (lent (now (head .exit)) (now (elements .exit)) (others (now (tags .entry)) (now (blank .entry)) (now (generations .entry)) (now (masks .entry)))) (now (answer .exit)) ≡ command (lent (now (head .entry)) (now (elements .entry)) (others (now (tags .entry)) (now (blank .entry)) (now (generations .entry)) (now (masks .entry)))) host (now (block .entry)) (now (parameters .entry)) (now (answer .entry)) ⌝ }
 {
-    serving::command(head, elements, tags, blank, host, block, parameters, answer)
+    serving::command(
+        head,
+        elements,
+        tags,
+        blank,
+        generations,
+        masks,
+        host,
+        block,
+        parameters,
+        answer,
+    )
 }
 
 #[no_mangle]
@@ -32,14 +45,27 @@ pub extern "C" fn smc_test_unit_ready<'a>(
     elements: &mut [u8],
     tags: &'a [u8],
     blank: &'a [u8],
+    generations: &'a [u8],
+    masks: &'a [u8],
     host: u32,
     block: &[u8],
     parameters: &[u8],
     answer: &mut [u8],
 ) -> Reply
-    ensures { λ r. ⌜ ended r (lent (now (head .exit)) (now (elements .exit)) (others (now (tags .entry)) (now (blank .entry)))) (now (answer .exit)) ≡ command (lent (now (head .entry)) (now (elements .entry)) (others (now (tags .entry)) (now (blank .entry)))) host (now (block .entry)) (now (parameters .entry)) (now (answer .entry)) ⌝ }
+    ensures { λ r. ⌜ ended r (lent (now (head .exit)) (now (elements .exit)) (others (now (tags .entry)) (now (blank .entry)) (now (generations .entry)) (now (masks .entry)))) (now (answer .exit)) ≡ command (lent (now (head .entry)) (now (elements .entry)) (others (now (tags .entry)) (now (blank .entry)) (now (generations .entry)) (now (masks .entry)))) host (now (block .entry)) (now (parameters .entry)) (now (answer .entry)) ⌝ }
 {
-    serving::command(head, elements, tags, blank, host, block, parameters, answer)
+    serving::command(
+        head,
+        elements,
+        tags,
+        blank,
+        generations,
+        masks,
+        host,
+        block,
+        parameters,
+        answer,
+    )
 }
 
 #[no_mangle]
@@ -48,14 +74,27 @@ pub extern "C" fn smc_request_sense<'a>(
     elements: &mut [u8],
     tags: &'a [u8],
     blank: &'a [u8],
+    generations: &'a [u8],
+    masks: &'a [u8],
     host: u32,
     block: &[u8],
     parameters: &[u8],
     answer: &mut [u8],
 ) -> Reply
-    ensures { λ r. ⌜ ended r (lent (now (head .exit)) (now (elements .exit)) (others (now (tags .entry)) (now (blank .entry)))) (now (answer .exit)) ≡ command (lent (now (head .entry)) (now (elements .entry)) (others (now (tags .entry)) (now (blank .entry)))) host (now (block .entry)) (now (parameters .entry)) (now (answer .entry)) ⌝ }
+    ensures { λ r. ⌜ ended r (lent (now (head .exit)) (now (elements .exit)) (others (now (tags .entry)) (now (blank .entry)) (now (generations .entry)) (now (masks .entry)))) (now (answer .exit)) ≡ command (lent (now (head .entry)) (now (elements .entry)) (others (now (tags .entry)) (now (blank .entry)) (now (generations .entry)) (now (masks .entry)))) host (now (block .entry)) (now (parameters .entry)) (now (answer .entry)) ⌝ }
 {
-    serving::command(head, elements, tags, blank, host, block, parameters, answer)
+    serving::command(
+        head,
+        elements,
+        tags,
+        blank,
+        generations,
+        masks,
+        host,
+        block,
+        parameters,
+        answer,
+    )
 }
 
 #[no_mangle]
@@ -64,14 +103,27 @@ pub extern "C" fn smc_reserve<'a>(
     elements: &mut [u8],
     tags: &'a [u8],
     blank: &'a [u8],
+    generations: &'a [u8],
+    masks: &'a [u8],
     host: u32,
     block: &[u8],
     parameters: &[u8],
     answer: &mut [u8],
 ) -> Reply
-    ensures { λ r. ⌜ ended r (lent (now (head .exit)) (now (elements .exit)) (others (now (tags .entry)) (now (blank .entry)))) (now (answer .exit)) ≡ command (lent (now (head .entry)) (now (elements .entry)) (others (now (tags .entry)) (now (blank .entry)))) host (now (block .entry)) (now (parameters .entry)) (now (answer .entry)) ⌝ }
+    ensures { λ r. ⌜ ended r (lent (now (head .exit)) (now (elements .exit)) (others (now (tags .entry)) (now (blank .entry)) (now (generations .entry)) (now (masks .entry)))) (now (answer .exit)) ≡ command (lent (now (head .entry)) (now (elements .entry)) (others (now (tags .entry)) (now (blank .entry)) (now (generations .entry)) (now (masks .entry)))) host (now (block .entry)) (now (parameters .entry)) (now (answer .entry)) ⌝ }
 {
-    serving::command(head, elements, tags, blank, host, block, parameters, answer)
+    serving::command(
+        head,
+        elements,
+        tags,
+        blank,
+        generations,
+        masks,
+        host,
+        block,
+        parameters,
+        answer,
+    )
 }
 
 #[no_mangle]
@@ -80,14 +132,27 @@ pub extern "C" fn smc_release<'a>(
     elements: &mut [u8],
     tags: &'a [u8],
     blank: &'a [u8],
+    generations: &'a [u8],
+    masks: &'a [u8],
     host: u32,
     block: &[u8],
     parameters: &[u8],
     answer: &mut [u8],
 ) -> Reply
-    ensures { λ r. ⌜ ended r (lent (now (head .exit)) (now (elements .exit)) (others (now (tags .entry)) (now (blank .entry)))) (now (answer .exit)) ≡ command (lent (now (head .entry)) (now (elements .entry)) (others (now (tags .entry)) (now (blank .entry)))) host (now (block .entry)) (now (parameters .entry)) (now (answer .entry)) ⌝ }
+    ensures { λ r. ⌜ ended r (lent (now (head .exit)) (now (elements .exit)) (others (now (tags .entry)) (now (blank .entry)) (now (generations .entry)) (now (masks .entry)))) (now (answer .exit)) ≡ command (lent (now (head .entry)) (now (elements .entry)) (others (now (tags .entry)) (now (blank .entry)) (now (generations .entry)) (now (masks .entry)))) host (now (block .entry)) (now (parameters .entry)) (now (answer .entry)) ⌝ }
 {
-    serving::command(head, elements, tags, blank, host, block, parameters, answer)
+    serving::command(
+        head,
+        elements,
+        tags,
+        blank,
+        generations,
+        masks,
+        host,
+        block,
+        parameters,
+        answer,
+    )
 }
 
 #[no_mangle]
@@ -96,14 +161,27 @@ pub extern "C" fn smc_prevent_allow<'a>(
     elements: &mut [u8],
     tags: &'a [u8],
     blank: &'a [u8],
+    generations: &'a [u8],
+    masks: &'a [u8],
     host: u32,
     block: &[u8],
     parameters: &[u8],
     answer: &mut [u8],
 ) -> Reply
-    ensures { λ r. ⌜ ended r (lent (now (head .exit)) (now (elements .exit)) (others (now (tags .entry)) (now (blank .entry)))) (now (answer .exit)) ≡ command (lent (now (head .entry)) (now (elements .entry)) (others (now (tags .entry)) (now (blank .entry)))) host (now (block .entry)) (now (parameters .entry)) (now (answer .entry)) ⌝ }
+    ensures { λ r. ⌜ ended r (lent (now (head .exit)) (now (elements .exit)) (others (now (tags .entry)) (now (blank .entry)) (now (generations .entry)) (now (masks .entry)))) (now (answer .exit)) ≡ command (lent (now (head .entry)) (now (elements .entry)) (others (now (tags .entry)) (now (blank .entry)) (now (generations .entry)) (now (masks .entry)))) host (now (block .entry)) (now (parameters .entry)) (now (answer .entry)) ⌝ }
 {
-    serving::command(head, elements, tags, blank, host, block, parameters, answer)
+    serving::command(
+        head,
+        elements,
+        tags,
+        blank,
+        generations,
+        masks,
+        host,
+        block,
+        parameters,
+        answer,
+    )
 }
 
 #[no_mangle]
@@ -112,14 +190,27 @@ pub extern "C" fn smc_move_medium<'a>(
     elements: &mut [u8],
     tags: &'a [u8],
     blank: &'a [u8],
+    generations: &'a [u8],
+    masks: &'a [u8],
     host: u32,
     block: &[u8],
     parameters: &[u8],
     answer: &mut [u8],
 ) -> Reply
-    ensures { λ r. ⌜ ended r (lent (now (head .exit)) (now (elements .exit)) (others (now (tags .entry)) (now (blank .entry)))) (now (answer .exit)) ≡ command (lent (now (head .entry)) (now (elements .entry)) (others (now (tags .entry)) (now (blank .entry)))) host (now (block .entry)) (now (parameters .entry)) (now (answer .entry)) ⌝ }
+    ensures { λ r. ⌜ ended r (lent (now (head .exit)) (now (elements .exit)) (others (now (tags .entry)) (now (blank .entry)) (now (generations .entry)) (now (masks .entry)))) (now (answer .exit)) ≡ command (lent (now (head .entry)) (now (elements .entry)) (others (now (tags .entry)) (now (blank .entry)) (now (generations .entry)) (now (masks .entry)))) host (now (block .entry)) (now (parameters .entry)) (now (answer .entry)) ⌝ }
 {
-    serving::command(head, elements, tags, blank, host, block, parameters, answer)
+    serving::command(
+        head,
+        elements,
+        tags,
+        blank,
+        generations,
+        masks,
+        host,
+        block,
+        parameters,
+        answer,
+    )
 }
 
 #[no_mangle]
@@ -128,14 +219,27 @@ pub extern "C" fn smc_exchange_medium<'a>(
     elements: &mut [u8],
     tags: &'a [u8],
     blank: &'a [u8],
+    generations: &'a [u8],
+    masks: &'a [u8],
     host: u32,
     block: &[u8],
     parameters: &[u8],
     answer: &mut [u8],
 ) -> Reply
-    ensures { λ r. ⌜ ended r (lent (now (head .exit)) (now (elements .exit)) (others (now (tags .entry)) (now (blank .entry)))) (now (answer .exit)) ≡ command (lent (now (head .entry)) (now (elements .entry)) (others (now (tags .entry)) (now (blank .entry)))) host (now (block .entry)) (now (parameters .entry)) (now (answer .entry)) ⌝ }
+    ensures { λ r. ⌜ ended r (lent (now (head .exit)) (now (elements .exit)) (others (now (tags .entry)) (now (blank .entry)) (now (generations .entry)) (now (masks .entry)))) (now (answer .exit)) ≡ command (lent (now (head .entry)) (now (elements .entry)) (others (now (tags .entry)) (now (blank .entry)) (now (generations .entry)) (now (masks .entry)))) host (now (block .entry)) (now (parameters .entry)) (now (answer .entry)) ⌝ }
 {
-    serving::command(head, elements, tags, blank, host, block, parameters, answer)
+    serving::command(
+        head,
+        elements,
+        tags,
+        blank,
+        generations,
+        masks,
+        host,
+        block,
+        parameters,
+        answer,
+    )
 }
 
 #[no_mangle]
@@ -144,14 +248,27 @@ pub extern "C" fn smc_read_element_status<'a>(
     elements: &mut [u8],
     tags: &'a [u8],
     blank: &'a [u8],
+    generations: &'a [u8],
+    masks: &'a [u8],
     host: u32,
     block: &[u8],
     parameters: &[u8],
     answer: &mut [u8],
 ) -> Reply
-    ensures { λ r. ⌜ ended r (lent (now (head .exit)) (now (elements .exit)) (others (now (tags .entry)) (now (blank .entry)))) (now (answer .exit)) ≡ command (lent (now (head .entry)) (now (elements .entry)) (others (now (tags .entry)) (now (blank .entry)))) host (now (block .entry)) (now (parameters .entry)) (now (answer .entry)) ⌝ }
+    ensures { λ r. ⌜ ended r (lent (now (head .exit)) (now (elements .exit)) (others (now (tags .entry)) (now (blank .entry)) (now (generations .entry)) (now (masks .entry)))) (now (answer .exit)) ≡ command (lent (now (head .entry)) (now (elements .entry)) (others (now (tags .entry)) (now (blank .entry)) (now (generations .entry)) (now (masks .entry)))) host (now (block .entry)) (now (parameters .entry)) (now (answer .entry)) ⌝ }
 {
-    serving::command(head, elements, tags, blank, host, block, parameters, answer)
+    serving::command(
+        head,
+        elements,
+        tags,
+        blank,
+        generations,
+        masks,
+        host,
+        block,
+        parameters,
+        answer,
+    )
 }
 
 #[no_mangle]
@@ -160,14 +277,27 @@ pub extern "C" fn smc_mode_sense<'a>(
     elements: &mut [u8],
     tags: &'a [u8],
     blank: &'a [u8],
+    generations: &'a [u8],
+    masks: &'a [u8],
     host: u32,
     block: &[u8],
     parameters: &[u8],
     answer: &mut [u8],
 ) -> Reply
-    ensures { λ r. ⌜ ended r (lent (now (head .exit)) (now (elements .exit)) (others (now (tags .entry)) (now (blank .entry)))) (now (answer .exit)) ≡ command (lent (now (head .entry)) (now (elements .entry)) (others (now (tags .entry)) (now (blank .entry)))) host (now (block .entry)) (now (parameters .entry)) (now (answer .entry)) ⌝ }
+    ensures { λ r. ⌜ ended r (lent (now (head .exit)) (now (elements .exit)) (others (now (tags .entry)) (now (blank .entry)) (now (generations .entry)) (now (masks .entry)))) (now (answer .exit)) ≡ command (lent (now (head .entry)) (now (elements .entry)) (others (now (tags .entry)) (now (blank .entry)) (now (generations .entry)) (now (masks .entry)))) host (now (block .entry)) (now (parameters .entry)) (now (answer .entry)) ⌝ }
 {
-    serving::command(head, elements, tags, blank, host, block, parameters, answer)
+    serving::command(
+        head,
+        elements,
+        tags,
+        blank,
+        generations,
+        masks,
+        host,
+        block,
+        parameters,
+        answer,
+    )
 }
 
 #[no_mangle]
@@ -176,12 +306,23 @@ pub extern "C" fn smc_import<'a>(
     elements: &mut [u8],
     tags: &'a [u8],
     blank: &'a [u8],
+    generations: &'a [u8],
+    masks: &'a [u8],
     address: u32,
     volume: u32,
 ) -> Reply
-    ensures { λ r. ⌜ ended r (lent (now (head .exit)) (now (elements .exit)) (others (now (tags .entry)) (now (blank .entry)))) [] ≡ import (lent (now (head .entry)) (now (elements .entry)) (others (now (tags .entry)) (now (blank .entry)))) address volume ⌝ }
+    ensures { λ r. ⌜ ended r (lent (now (head .exit)) (now (elements .exit)) (others (now (tags .entry)) (now (blank .entry)) (now (generations .entry)) (now (masks .entry)))) [] ≡ import (lent (now (head .entry)) (now (elements .entry)) (others (now (tags .entry)) (now (blank .entry)) (now (generations .entry)) (now (masks .entry)))) address volume ⌝ }
 {
-    serving::event::import(head, elements, tags, blank, address, volume)
+    serving::event::import(
+        head,
+        elements,
+        tags,
+        blank,
+        generations,
+        masks,
+        address,
+        volume,
+    )
 }
 
 #[no_mangle]
@@ -190,11 +331,13 @@ pub extern "C" fn smc_export<'a>(
     elements: &mut [u8],
     tags: &'a [u8],
     blank: &'a [u8],
+    generations: &'a [u8],
+    masks: &'a [u8],
     address: u32,
 ) -> Reply
-    ensures { λ r. ⌜ ended r (lent (now (head .exit)) (now (elements .exit)) (others (now (tags .entry)) (now (blank .entry)))) [] ≡ export (lent (now (head .entry)) (now (elements .entry)) (others (now (tags .entry)) (now (blank .entry)))) address ⌝ }
+    ensures { λ r. ⌜ ended r (lent (now (head .exit)) (now (elements .exit)) (others (now (tags .entry)) (now (blank .entry)) (now (generations .entry)) (now (masks .entry)))) [] ≡ export (lent (now (head .entry)) (now (elements .entry)) (others (now (tags .entry)) (now (blank .entry)) (now (generations .entry)) (now (masks .entry)))) address ⌝ }
 {
-    serving::event::export(head, elements, tags, blank, address)
+    serving::event::export(head, elements, tags, blank, generations, masks, address)
 }
 
 #[no_mangle]
@@ -203,10 +346,12 @@ pub extern "C" fn smc_reset<'a>(
     elements: &mut [u8],
     tags: &'a [u8],
     blank: &'a [u8],
+    generations: &'a [u8],
+    masks: &'a [u8],
 ) -> Reply
-    ensures { λ r. ⌜ ended r (lent (now (head .exit)) (now (elements .exit)) (others (now (tags .entry)) (now (blank .entry)))) [] ≡ reset (lent (now (head .entry)) (now (elements .entry)) (others (now (tags .entry)) (now (blank .entry)))) ⌝ }
+    ensures { λ r. ⌜ ended r (lent (now (head .exit)) (now (elements .exit)) (others (now (tags .entry)) (now (blank .entry)) (now (generations .entry)) (now (masks .entry)))) [] ≡ reset (lent (now (head .entry)) (now (elements .entry)) (others (now (tags .entry)) (now (blank .entry)) (now (generations .entry)) (now (masks .entry)))) ⌝ }
 {
-    serving::event::reset(head, elements, tags, blank)
+    serving::event::reset(head, elements, tags, blank, generations, masks)
 }
 
 #[no_mangle]
@@ -215,11 +360,23 @@ pub extern "C" fn smc_replay<'a>(
     elements: &mut [u8],
     tags: &'a [u8],
     blank: &'a [u8],
+    generations: &'a [u8],
+    masks: &'a [u8],
     log: &[u8],
     expected: u32,
     budget: u32,
 ) -> Replayed
-    ensures { λ r. ⌜ endedReplay r (lent (now (head .exit)) (now (elements .exit)) (others (now (tags .entry)) (now (blank .entry)))) ≡ replay (lent (now (head .entry)) (now (elements .entry)) (others (now (tags .entry)) (now (blank .entry)))) (now (log .entry)) expected budget ⌝ }
+    ensures { λ r. ⌜ endedReplay r (lent (now (head .exit)) (now (elements .exit)) (others (now (tags .entry)) (now (blank .entry)) (now (generations .entry)) (now (masks .entry)))) ≡ replay (lent (now (head .entry)) (now (elements .entry)) (others (now (tags .entry)) (now (blank .entry)) (now (generations .entry)) (now (masks .entry)))) (now (log .entry)) expected budget ⌝ }
 {
-    replay::replay(head, elements, tags, blank, log, expected, budget)
+    replay::replay(
+        head,
+        elements,
+        tags,
+        blank,
+        generations,
+        masks,
+        log,
+        expected,
+        budget,
+    )
 }

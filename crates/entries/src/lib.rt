@@ -11,14 +11,27 @@ pub fn command<'a>(
     elements: &mut [u8],
     tags: &'a [u8],
     blank: &'a [u8],
+    generations: &'a [u8],
+    masks: &'a [u8],
     host: u32,
     block: &[u8],
     parameters: &[u8],
     answer: &mut [u8],
 ) -> Reply
-    ensures { λ r. ⌜ CommandEnds (lent (now (head .entry)) (now (elements .entry)) (others (now (tags .entry)) (now (blank .entry)))) host (now (block .entry)) (now (parameters .entry)) (now (answer .entry)) r (lent (now (head .exit)) (now (elements .exit)) (others (now (tags .entry)) (now (blank .entry)))) (now (answer .exit)) ⌝ }
+    ensures { λ r. ⌜ CommandEnds (lent (now (head .entry)) (now (elements .entry)) (others (now (tags .entry)) (now (blank .entry)) (now (generations .entry)) (now (masks .entry)))) host (now (block .entry)) (now (parameters .entry)) (now (answer .entry)) r (lent (now (head .exit)) (now (elements .exit)) (others (now (tags .entry)) (now (blank .entry)) (now (generations .entry)) (now (masks .entry)))) (now (answer .exit)) ⌝ }
 {
-    changer::smc_command(head, elements, tags, blank, host, block, parameters, answer)
+    changer::smc_command(
+        head,
+        elements,
+        tags,
+        blank,
+        generations,
+        masks,
+        host,
+        block,
+        parameters,
+        answer,
+    )
 }
 
 pub fn import<'a>(
@@ -26,12 +39,23 @@ pub fn import<'a>(
     elements: &mut [u8],
     tags: &'a [u8],
     blank: &'a [u8],
+    generations: &'a [u8],
+    masks: &'a [u8],
     address: u32,
     volume: u32,
 ) -> Reply
-    ensures { λ r. ⌜ ImportEnds (lent (now (head .entry)) (now (elements .entry)) (others (now (tags .entry)) (now (blank .entry)))) address volume r (lent (now (head .exit)) (now (elements .exit)) (others (now (tags .entry)) (now (blank .entry)))) [] ⌝ }
+    ensures { λ r. ⌜ ImportEnds (lent (now (head .entry)) (now (elements .entry)) (others (now (tags .entry)) (now (blank .entry)) (now (generations .entry)) (now (masks .entry)))) address volume r (lent (now (head .exit)) (now (elements .exit)) (others (now (tags .entry)) (now (blank .entry)) (now (generations .entry)) (now (masks .entry)))) [] ⌝ }
 {
-    changer::smc_import(head, elements, tags, blank, address, volume)
+    changer::smc_import(
+        head,
+        elements,
+        tags,
+        blank,
+        generations,
+        masks,
+        address,
+        volume,
+    )
 }
 
 pub fn export<'a>(
@@ -39,17 +63,26 @@ pub fn export<'a>(
     elements: &mut [u8],
     tags: &'a [u8],
     blank: &'a [u8],
+    generations: &'a [u8],
+    masks: &'a [u8],
     address: u32,
 ) -> Reply
-    ensures { λ r. ⌜ ExportEnds (lent (now (head .entry)) (now (elements .entry)) (others (now (tags .entry)) (now (blank .entry)))) address r (lent (now (head .exit)) (now (elements .exit)) (others (now (tags .entry)) (now (blank .entry)))) [] ⌝ }
+    ensures { λ r. ⌜ ExportEnds (lent (now (head .entry)) (now (elements .entry)) (others (now (tags .entry)) (now (blank .entry)) (now (generations .entry)) (now (masks .entry)))) address r (lent (now (head .exit)) (now (elements .exit)) (others (now (tags .entry)) (now (blank .entry)) (now (generations .entry)) (now (masks .entry)))) [] ⌝ }
 {
-    changer::smc_export(head, elements, tags, blank, address)
+    changer::smc_export(head, elements, tags, blank, generations, masks, address)
 }
 
-pub fn reset<'a>(head: &mut [u8], elements: &mut [u8], tags: &'a [u8], blank: &'a [u8]) -> Reply
-    ensures { λ r. ⌜ ResetEnds (lent (now (head .entry)) (now (elements .entry)) (others (now (tags .entry)) (now (blank .entry)))) r (lent (now (head .exit)) (now (elements .exit)) (others (now (tags .entry)) (now (blank .entry)))) [] ⌝ }
+pub fn reset<'a>(
+    head: &mut [u8],
+    elements: &mut [u8],
+    tags: &'a [u8],
+    blank: &'a [u8],
+    generations: &'a [u8],
+    masks: &'a [u8],
+) -> Reply
+    ensures { λ r. ⌜ ResetEnds (lent (now (head .entry)) (now (elements .entry)) (others (now (tags .entry)) (now (blank .entry)) (now (generations .entry)) (now (masks .entry)))) r (lent (now (head .exit)) (now (elements .exit)) (others (now (tags .entry)) (now (blank .entry)) (now (generations .entry)) (now (masks .entry)))) [] ⌝ }
 {
-    changer::smc_reset(head, elements, tags, blank)
+    changer::smc_reset(head, elements, tags, blank, generations, masks)
 }
 
 pub fn replay<'a>(
@@ -57,11 +90,23 @@ pub fn replay<'a>(
     elements: &mut [u8],
     tags: &'a [u8],
     blank: &'a [u8],
+    generations: &'a [u8],
+    masks: &'a [u8],
     log: &[u8],
     expected: u32,
     budget: u32,
 ) -> Replayed
-    ensures { λ r. ⌜ ReplayEnds (lent (now (head .entry)) (now (elements .entry)) (others (now (tags .entry)) (now (blank .entry)))) (now (log .entry)) expected budget r (lent (now (head .exit)) (now (elements .exit)) (others (now (tags .entry)) (now (blank .entry)))) ⌝ }
+    ensures { λ r. ⌜ ReplayEnds (lent (now (head .entry)) (now (elements .entry)) (others (now (tags .entry)) (now (blank .entry)) (now (generations .entry)) (now (masks .entry)))) (now (log .entry)) expected budget r (lent (now (head .exit)) (now (elements .exit)) (others (now (tags .entry)) (now (blank .entry)) (now (generations .entry)) (now (masks .entry)))) ⌝ }
 {
-    changer::smc_replay(head, elements, tags, blank, log, expected, budget)
+    changer::smc_replay(
+        head,
+        elements,
+        tags,
+        blank,
+        generations,
+        masks,
+        log,
+        expected,
+        budget,
+    )
 }

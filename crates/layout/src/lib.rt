@@ -66,6 +66,9 @@ pub const MOST_TRANSPORTS: usize = 127;
 
 pub const MOST_VOLUMES: usize = 512;
 
+// "generation 1 to 8"
+pub const MOST_GENERATIONS: u8 = 8;
+
 // the address behind the last that a range may have
 pub const BEHIND_LAST: u32 = 65536;
 

@@ -4,7 +4,7 @@ use mathlib.Core.Path.{_≡_}
 use mathlib.Core.Bool.{true}
 use mathlib.Core.List.{List}
 use lib.ListN.{length}
-use Rattle.rules.specs.Tables.{Tables, lent, others}
+use Rattle.rules.specs.Tables.{Tables, Rest, lent}
 use Rattle.rules.specs.Sound.{sound}
 use Rattle.rules.specs.Log.{LINE-FEED, firstOf}
 use Rattle.rules.specs.Replay.{Turn, idle}
@@ -14,8 +14,8 @@ use Rattle.log_call.specs.declared.Turned.{Turned}
 use Rattle.log_call.specs.declared.Turned.the-variants.{Stopped, Applied}
 
 -- what every line finds and leaves: sound tables, and their runs
-pub record Kept (runs : List Range) (head elements tags blank : List ℕ) : Type 0 where
-  pub sound-now : sound (lent head elements (others tags blank)) ≡ true
+pub record Kept (runs : List Range) (head elements : List ℕ) (rest : Rest) : Type 0 where
+  pub sound-now : sound (lent head elements rest) ≡ true
   pub runs-are : Runs runs head
 
 -- with the tables as they then are

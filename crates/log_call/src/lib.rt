@@ -65,12 +65,14 @@ fn obey<'a>(
     elements: &mut [u8],
     tags: &'a [u8],
     blank: &'a [u8],
+    generations: &'a [u8],
+    masks: &'a [u8],
     host: u8,
     block: &mut [u8],
     list: &[u8],
 )
-    requires { ⌜ Kept runs (now head) (now elements) (now tags) (now blank) ⌝ }
-    ensures { λ _. ⌜ lent (now (head .exit)) (now (elements .exit)) (others (now (tags .entry)) (now (blank .entry))) ≡ afterLine (lent (now (head .entry)) (now (elements .entry)) (others (now (tags .entry)) (now (blank .entry)))) (Command (record { host = host; block = now (block .entry); parameters = now (list .entry); buffer = [] })) ⌝ }
+    requires { ⌜ Kept runs (now head) (now elements) (others (now tags) (now blank) (now generations) (now masks)) ⌝ }
+    ensures { λ _. ⌜ lent (now (head .exit)) (now (elements .exit)) (others (now (tags .entry)) (now (blank .entry)) (now (generations .entry)) (now (masks .entry))) ≡ afterLine (lent (now (head .entry)) (now (elements .entry)) (others (now (tags .entry)) (now (blank .entry)) (now (generations .entry)) (now (masks .entry)))) (Command (record { host = host; block = now (block .entry); parameters = now (list .entry); buffer = [] })) ⌝ }
 {
     if !numbers::known_host(host as u32) {
         return;
@@ -91,6 +93,8 @@ fn obey<'a>(
         elements,
         tags,
         blank,
+        generations,
+        masks,
         host,
         block,
         list,
@@ -155,18 +159,31 @@ fn carry<'a>(
     elements: &mut [u8],
     tags: &'a [u8],
     blank: &'a [u8],
+    generations: &'a [u8],
+    masks: &'a [u8],
     host: u8,
     block: &mut [u8],
     list: &[u8],
 ) -> bool
-    requires { ⌜ Kept runs (now head) (now elements) (now tags) (now blank) ⌝ }
-    ensures { λ r. ⌜ ((e : ℕ) → record { applied = r; tables = lent (now (head .exit)) (now (elements .exit)) (others (now (tags .entry)) (now (blank .entry))) } ≡ turnOn (lent (now (head .entry)) (now (elements .entry)) (others (now (tags .entry)) (now (blank .entry)))) e (entryOf e host (now (block .entry)) (now (list .entry)))) ⌝ }
+    requires { ⌜ Kept runs (now head) (now elements) (others (now tags) (now blank) (now generations) (now masks)) ⌝ }
+    ensures { λ r. ⌜ ((e : ℕ) → record { applied = r; tables = lent (now (head .exit)) (now (elements .exit)) (others (now (tags .entry)) (now (blank .entry)) (now (generations .entry)) (now (masks .entry))) } ≡ turnOn (lent (now (head .entry)) (now (elements .entry)) (others (now (tags .entry)) (now (blank .entry)) (now (generations .entry)) (now (masks .entry)))) e (entryOf e host (now (block .entry)) (now (list .entry)))) ⌝ }
 {
     if host == 0 {
         let event = event_of(block, list);
         return occur(runs, head, elements, tags, event);
     }
-    obey(runs, head, elements, tags, blank, host, block, list);
+    obey(
+        runs,
+        head,
+        elements,
+        tags,
+        blank,
+        generations,
+        masks,
+        host,
+        block,
+        list,
+    );
     true
 }
 
@@ -177,14 +194,16 @@ pub fn turn<'a>(
     elements: &mut [u8],
     tags: &'a [u8],
     blank: &'a [u8],
+    generations: &'a [u8],
+    masks: &'a [u8],
     expected: u32,
     text: &[u8],
     block: &mut [u8],
     list: &mut [u8],
 ) -> Turned
-    requires { ⌜ Kept runs (now head) (now elements) (now tags) (now blank) ⌝ }
+    requires { ⌜ Kept runs (now head) (now elements) (others (now tags) (now blank) (now generations) (now masks)) ⌝ }
     requires { ⌜ (256 ≤ length (now block)) × (256 ≤ length (now list)) ⌝ }
-    ensures { λ r. ⌜ turned r (lent (now (head .exit)) (now (elements .exit)) (others (now (tags .entry)) (now (blank .entry)))) ≡ turnOf (lent (now (head .entry)) (now (elements .entry)) (others (now (tags .entry)) (now (blank .entry)))) expected (now (text .entry)) ⌝ }
+    ensures { λ r. ⌜ turned r (lent (now (head .exit)) (now (elements .exit)) (others (now (tags .entry)) (now (blank .entry)) (now (generations .entry)) (now (masks .entry)))) ≡ turnOf (lent (now (head .entry)) (now (elements .entry)) (others (now (tags .entry)) (now (blank .entry)) (now (generations .entry)) (now (masks .entry)))) expected (now (text .entry)) ⌝ }
     ensures { λ r. ⌜ Taken r (now (text .entry)) ⌝ }
 {
     match log_line::read_line(text, block, list) {
@@ -205,6 +224,8 @@ pub fn turn<'a>(
                 elements,
                 tags,
                 blank,
+                generations,
+                masks,
                 host,
                 &mut block[..b],
                 &list[..l],

@@ -3,11 +3,16 @@ use Prim.Native.Nat.{ℕ, _+_, _-_, _<_, _≤_}
 use native.Mathlib.Omega.{arith}
 use mathlib.Core.Path.{_≡_, ap, _∙_}
 use mathlib.Core.List.{List}
+use mathlib.Core.Bool.{Bool, false, not}
 use lib.ListN.{length}
 use lib.Dec.{eqb}
-use Rattle.rules.specs.Roster.{Slot, kindOf, placeOf, transport, storage}
+use borrow.Author.Tests.{eq-eqb, ne-eqb}
+use Rattle.rules.specs.Choice.{when, allOf}
+use Rattle.rules.specs.Bytes.{byte, word}
+use Rattle.rules.specs.Roster.{Slot, rangeAt, range, kindOf, placeOf, transport, storage, drive}
 use Rattle.rules.specs.Tables.{shown}
-use Rattle.rules.proofs.Ladder.{yes, no, eq-yes, eq-no, le-is, le-not, on}
+use Rattle.rules.specs.Fitting.{accepts}
+use Rattle.rules.proofs.Ladder.{yes, no, eq-yes, eq-no, le-is, le-not, on, test-is}
 use Rattle.rules.proofs.Rungs.{differ-yes, differ-no, below-as}
 use Rattle.rules.proofs.Places.{place-in}
 use Rattle.tables.specs.declared.Spot.{Spot}
@@ -17,7 +22,7 @@ use Rattle.tables.specs.declared.Found.{Found}
 use Rattle.tables.specs.declared.Found.the-variants.{At}
 use Rattle.tables.specs.LookUp.{found, spotOf}
 use Rattle.tables.proofs.LookUp.{found-by, at-yes, at-no, at-below}
-use Rattle.moves.specs.Judged.{armAt, exchangeAt, Within, wrong, onPlace, shelf}
+use Rattle.moves.specs.Judged.{armAt, exchangeAt, Within, wrong, onPlace, unfitAt, shelf}
 use Rattle.moves.specs.declared.Ruling.{Ruling}
 use Rattle.moves.specs.declared.Ruling.the-variants.{Move, Exchange}
 
@@ -74,6 +79,24 @@ within-move n p q v r e w = rw e at w
 pub within-exchange : (n : ℕ) (p q s : Spot) (v w : ℕ) (r : Ruling) → r ≡ Exchange p q s v w → Within n r
     → (p .place < n) × ((q .place < n) × (s .place < n))
 within-exchange n p q s v w r e i = rw e at i
+
+-- ---- a drive that does not take a volume
+
+-- an element of another type takes any
+pub no-drive : (head generations masks : List ℕ) (kind a v : ℕ) → (kind ≡ drive → ⊥) → false ≡ unfitAt head generations masks kind a v
+unfolding unfitAt allOf when
+no-drive head gs ms kind a v n = rw (ne-eqb kind drive n)
+
+-- the drive's number, from the first drive's address on, was read by calls
+pub drive-by : (head generations masks : List ℕ) (kind a v first d : ℕ) (b : Bool) → kind ≡ drive → first ≡ word head (rangeAt 3) → d ≡ a - first
+    → b ≡ accepts (byte masks d) (byte generations (v - 1)) → not b ≡ unfitAt head generations masks kind a v
+unfolding unfitAt allOf when range
+drive-by head gs ms kind a v first d b k f e is = rw (eq-eqb kind drive k, ← f, ← e, ← is) (test-is (not b))
+
+-- the address was read by a call
+pub unfit-by : (head generations masks : List ℕ) (kind x a v : ℕ) (b : Bool) → b ≡ unfitAt head generations masks kind x v → x ≡ a
+    → b ≡ unfitAt head generations masks kind a v
+unfit-by head gs ms kind x a v b is e = cc
 
 -- ---- the panel's number
 

@@ -21,8 +21,8 @@ use Rattle.tables.specs.Ranges.{laid}
 use Rattle.tables.proofs.Roster.{runs-laid}
 use Rattle.moves.specs.declared.Ruling.{Ruling}
 use Rattle.moves.specs.declared.Ruling.the-variants.{Move, Exchange}
-use Rattle.moves.specs.Judged.{shelfAt, meaning, shifted, carried, swapped, moveBy, exchangeBy, shelf, Tally, Able, Within, Ready}
-use Rattle.moves.proofs.Meaning.{move-means, exchange-means}
+use Rattle.moves.specs.Judged.{shelfAt, meaning, shifted, carried, swapped, moveBy, exchangeBy, fitted, shelf, Tally, Tallies, Able, Within, Ready}
+use Rattle.moves.proofs.Meaning.{move-means, exchange-means, fitted-keeps}
 use Rattle.moves.proofs.Tallied.{move-tallies, exchange-tallies}
 
 -- the address that was left came from a call
@@ -95,36 +95,35 @@ module _ (runs : List Range) (head es : List ℕ) (ready : Ready runs head es) w
   unfolding places
   records-are = omega (arith, ap length (runs-laid runs head (ready .runs-are)), ready .records)
 
-  pub move-judged : (block : List ℕ) (rest : Rest) (h : ℕ) (ruling : Ruling) → ruling ≡ moveBy (laid runs) es h block
-      → meaning es h block ruling ≡ move (lent head es rest) h block
-  move-judged block rest h ruling e = cc (runs-laid runs head (ready .runs-are), move-means (lent head es rest) h block)
+  module _ (generations masks block : List ℕ) (h : ℕ) (judged ruling : Ruling) (is : ruling ≡ fitted head generations masks block judged) where
+    -- what the last test leaves can be carried out, since what was judged before it could
+    able-as : length block ≡ 12 → Within (places es) judged → Tallies (roster head) es block (emptyShelves (roster head) es) judged
+        → Able head es block ruling
+    able-as long inside tallied =
+        record {
+          head-length = ready .head-length;
+          block-length = long;
+          few = omega (arith, ready .panel-true, ready .few, shelves-most (roster head) es);
+          within = rw is (fitted-keeps (Within (places es)) (λ _. tt) head generations masks block judged inside);
+          tallies =
+              rw (is, ready .panel-true)
+              (fitted-keeps (Tallies (roster head) es block (emptyShelves (roster head) es)) (λ _. tt) head generations masks block judged tallied);
+        }
 
-  pub move-able : (block : List ℕ) (h : ℕ) (ruling : Ruling) → length block ≡ 12 → ruling ≡ moveBy (laid runs) es h block → Within (places es) ruling
-      → Able head es block ruling
-  move-able block h ruling long e inside =
-      record {
-        head-length = ready .head-length;
-        block-length = long;
-        few = omega (arith, ready .panel-true, ready .few, shelves-most (roster head) es);
-        within = inside;
-        tallies =
-            rw (e, runs-laid runs head (ready .runs-are), ready .panel-true)
-            (move-tallies (roster head) (roster-placed head) es (ready .records) h block);
-      }
+    pub move-judged : judged ≡ moveBy (laid runs) es h block → (rest : Rest) → rest .generations ≡ generations → rest .masks ≡ masks
+        → meaning es h block ruling ≡ move (lent head es rest) h block
+    move-judged e rest g m = cc (runs-laid runs head (ready .runs-are), move-means (lent head es rest) h block)
 
-  pub exchange-judged : (block : List ℕ) (rest : Rest) (h : ℕ) (ruling : Ruling) → ruling ≡ exchangeBy (laid runs) es h block
-      → meaning es h block ruling ≡ exchange (lent head es rest) h block
-  exchange-judged block rest h ruling e = cc (runs-laid runs head (ready .runs-are), exchange-means (lent head es rest) h block)
+    pub move-able : judged ≡ moveBy (laid runs) es h block → length block ≡ 12 → Within (places es) judged → Able head es block ruling
+    move-able e long inside =
+        able-as long inside
+        (rw (e, runs-laid runs head (ready .runs-are)) (move-tallies (roster head) (roster-placed head) es (ready .records) h block))
 
-  pub exchange-able : (block : List ℕ) (h : ℕ) (ruling : Ruling) → length block ≡ 12 → ruling ≡ exchangeBy (laid runs) es h block → Within (places es) ruling
-      → Able head es block ruling
-  exchange-able block h ruling long e inside =
-      record {
-        head-length = ready .head-length;
-        block-length = long;
-        few = omega (arith, ready .panel-true, ready .few, shelves-most (roster head) es);
-        within = inside;
-        tallies =
-            rw (e, runs-laid runs head (ready .runs-are), ready .panel-true)
-            (exchange-tallies (roster head) (roster-placed head) es (ready .records) h block);
-      }
+    pub exchange-judged : judged ≡ exchangeBy (laid runs) es h block → (rest : Rest) → rest .generations ≡ generations → rest .masks ≡ masks
+        → meaning es h block ruling ≡ exchange (lent head es rest) h block
+    exchange-judged e rest g m = cc (runs-laid runs head (ready .runs-are), exchange-means (lent head es rest) h block)
+
+    pub exchange-able : judged ≡ exchangeBy (laid runs) es h block → length block ≡ 12 → Within (places es) judged → Able head es block ruling
+    exchange-able e long inside =
+        able-as long inside
+        (rw (e, runs-laid runs head (ready .runs-are)) (exchange-tallies (roster head) (roster-placed head) es (ready .records) h block))

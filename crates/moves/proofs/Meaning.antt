@@ -6,14 +6,18 @@ use mathlib.Core.List.{List, [], _∷_}
 use lib.Dec.{eqb}
 use Rattle.rules.specs.Choice.{when, anyOf, allOf, differ}
 use Rattle.rules.specs.Tables.{Tables}
-use Rattle.rules.specs.Roster.{roster}
-use Rattle.rules.specs.Order.{heldByOther, volumeOf, sourceOf}
+use Rattle.rules.specs.Roster.{roster, kindOf}
+use Rattle.rules.specs.Order.{Verdict, heldByOther, volumeOf, sourceOf}
 use Rattle.rules.specs.Moves.{move, moveOf, exchange, exchangeOf, transportUsed, noPlace, leave, shelfOf, carry}
-use Rattle.rules.proofs.Ladder.{any-yes, any-none, when-of, when-not}
+use Rattle.rules.specs.Fitting.{generation, maskOf, driveTakes, unfit}
+use Rattle.rules.proofs.Ladder.{any-yes, any-none, when-of, when-not, on}
+use Rattle.order.specs.declared.Cause.{Cause}
 use Rattle.order.specs.Ending.{reason}
 use Rattle.tables.proofs.LookUp.{found-cases, no-transport-is}
 use Rattle.tables.specs.LookUp.{spotOf}
-use Rattle.moves.specs.Judged.{armAt, shelfAt, meaning, onPlace, moveAt, exchangeHeld, hinders, exchangeAt, moveBy, exchangeSpots, exchangeBy}
+use Rattle.moves.specs.Judged.{armAt, shelfAt, meaning, onPlace, moveAt, exchangeHeld, hinders, exchangeAt, moveBy, exchangeSpots, exchangeBy, unfitAt, fitted}
+use Rattle.moves.specs.declared.Ruling.{Ruling}
+use Rattle.moves.specs.declared.Ruling.the-variants.{Move, Exchange, Refused, Conflict}
 
 -- a list of tests, one after the other
 any-more : {A : Type 0} (b : Bool) (bs : List Bool) (x y : A) → when (anyOf (b ∷ bs)) x y ≡ when b x (when (anyOf bs) x y)
@@ -34,10 +38,28 @@ full-other v a b x y = go (eqb v 0) (eqb a b)
     go false false = refl
 
 module _ (t : Tables) (h : ℕ) (block : List ℕ) where
-  pub move-means : meaning (t .elements) h block (moveBy (roster (t .head)) (t .elements) h block) ≡ move t h block
-  unfolding moveBy onPlace moveAt move moveOf transportUsed armAt heldByOther volumeOf sourceOf leave shelfOf shelfAt spotOf noPlace carry meaning reason
-  move-means = simp (found-cases, when-of (meaning (t .elements) h block), any-more, any-end, no-transport-is, when-not)
+  -- what is made of an answer of steps 5 to 8
+  abbrev Meant : Ruling → Verdict
+  Meant r = meaning (t .elements) h block (fitted (t .head) (t .rest .generations) (t .rest .masks) block r)
 
-  pub exchange-means : meaning (t .elements) h block (exchangeBy (roster (t .head)) (t .elements) h block) ≡ exchange t h block
-  unfolding exchangeBy exchangeSpots onPlace exchangeHeld hinders exchangeAt exchange exchangeOf transportUsed armAt heldByOther volumeOf sourceOf leave shelfOf shelfAt spotOf noPlace carry meaning reason
-  exchange-means = simp (found-cases, when-of (meaning (t .elements) h block), any-more, any-end, no-transport-is, when-not, full-other)
+  -- by the type of the element that was found at the address
+  unfit-is : (a v : ℕ) → unfitAt (t .head) (t .rest .generations) (t .rest .masks) (kindOf (roster (t .head)) a) a v ≡ unfit t a v
+  unfolding unfitAt unfit driveTakes maskOf generation
+  unfit-is a v = refl
+
+  pub move-means : Meant (moveBy (roster (t .head)) (t .elements) h block) ≡ move t h block
+  unfolding moveBy onPlace moveAt fitted move moveOf transportUsed armAt heldByOther volumeOf sourceOf leave shelfOf shelfAt spotOf noPlace carry meaning reason
+  move-means = simp (found-cases, when-of Meant, when-of (meaning (t .elements) h block), unfit-is, any-more, any-end, no-transport-is, when-not)
+
+  pub exchange-means : Meant (exchangeBy (roster (t .head)) (t .elements) h block) ≡ exchange t h block
+  unfolding exchangeBy exchangeSpots onPlace exchangeHeld hinders exchangeAt fitted exchange exchangeOf transportUsed armAt heldByOther volumeOf sourceOf leave shelfOf shelfAt spotOf noPlace carry meaning reason
+  exchange-means = simp (found-cases, when-of Meant, when-of (meaning (t .elements) h block), unfit-is, any-more, any-end, no-transport-is, when-not, full-other)
+
+-- what holds of an answer and of every refusal still holds behind the last test
+pub fitted-keeps : (P : Ruling → Type 0) → ((cause : Cause) → P (Refused cause)) → (head generations masks block : List ℕ) (r : Ruling) → P r
+    → P (fitted head generations masks block r)
+unfolding fitted
+fitted-keeps P told head gs ms block (Move p q v) x = on P _ (λ _. told _) (λ _. x)
+fitted-keeps P told head gs ms block (Exchange p q r v w) x = on P _ (λ _. told _) (λ _. on P _ (λ _. told _) (λ _. x))
+fitted-keeps P told head gs ms block (Refused cause) x = x
+fitted-keeps P told head gs ms block Conflict x = x

@@ -1,16 +1,17 @@
 -- MOVE and EXCHANGE judged by places, as the code goes, and what each answer means in the rules. Assumes nothing.
-use Prim.Native.Nat.{ℕ, _+_, _*_, _<_, _≤_}
+use Prim.Native.Nat.{ℕ, _+_, _*_, _-_, _<_, _≤_}
 use mathlib.Core.Path.{_≡_}
 use mathlib.Core.List.{List, [], _∷_}
-use mathlib.Core.Bool.{Bool, false}
+use mathlib.Core.Bool.{Bool, false, not}
 use lib.ListN.{length}
 use lib.Dec.{eqb, leb}
-use Rattle.rules.specs.Choice.{when, anyOf, differ}
-use Rattle.rules.specs.Bytes.{word}
+use Rattle.rules.specs.Choice.{when, anyOf, allOf, differ}
+use Rattle.rules.specs.Bytes.{byte, word}
 use Rattle.rules.specs.Tables.{headSize, elementSize, mostElements, places, holder, volume, source, panel, emptyShelves, filled, Fill, Recount}
-use Rattle.rules.specs.Roster.{Slot, roster, kindOf, firstTransport, transport, storage}
+use Rattle.rules.specs.Roster.{Slot, range, roster, kindOf, firstTransport, transport, storage, drive}
 use Rattle.rules.specs.Order.{Verdict, refused, conflict, good, other}
-use Rattle.order.specs.declared.Cause.the-variants.{WrongAddress, SourceEmpty, DestinationFull}
+use Rattle.rules.specs.Fitting.{accepts}
+use Rattle.order.specs.declared.Cause.the-variants.{WrongAddress, SourceEmpty, DestinationFull, IncompatibleMedium}
 use Rattle.order.specs.Ending.{reason}
 use Rattle.tables.specs.declared.Range.{Range}
 use Rattle.tables.specs.declared.Spot.{Spot}
@@ -103,6 +104,25 @@ exchangeSpots ss elements h block arm =
 unfoldable pub exchangeBy : List Slot → List ℕ → ℕ → List ℕ → Ruling
 exchangeBy ss elements h block =
     onFound (found Transport ss (armAt ss (word block 2))) (λ arm. exchangeSpots ss elements h block arm) wrong
+
+-- ---- "The new refusal stands after step 8"
+
+-- the element of a type at an address is a drive, and does not take a volume, by the generations and the masks
+unfoldable pub unfitAt : List ℕ → List ℕ → List ℕ → ℕ → ℕ → ℕ → Bool
+unfitAt head generations masks kind a v =
+    allOf (eqb kind drive ∷ not (accepts (byte masks (a - range head 3 .first)) (byte generations (v - 1))) ∷ [])
+
+abbrev pub incompatible : Ruling
+incompatible = Refused IncompatibleMedium
+
+-- what was judged in steps 5 to 8, or the new refusal: "for a move or either leg of an exchange that ends in a drive"
+unfoldable pub fitted : List ℕ → List ℕ → List ℕ → List ℕ → Ruling → Ruling
+fitted head generations masks block (Move p q v) = when (unfitAt head generations masks (q .kind) (word block 6) v) incompatible (Move p q v)
+fitted head generations masks block (Exchange p q r v w) =
+    when (unfitAt head generations masks (q .kind) (word block 6) v) incompatible
+    (when (unfitAt head generations masks (r .kind) (word block 8) w) incompatible (Exchange p q r v w))
+fitted head generations masks block (Refused cause) = Refused cause
+fitted head generations masks block Conflict = Conflict
 
 -- ---- carried out
 

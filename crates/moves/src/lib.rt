@@ -16,7 +16,10 @@ ghost use Rattle.order.specs.Ending.{ended};
 ghost use Rattle.tables.specs.Ranges.{laid};
 ghost use Rattle.tables.specs.LookUp.{found};
 ghost use Rattle.tables.specs.declared.Types.the-variants.{Transport};
-ghost use Rattle.moves.specs.Judged.{armAt, shelfAt, meaning, Within, moveAt, exchangeHeld, hinders, exchangeAt, moveBy, exchangeSpots, exchangeBy, shifted, carried, swapped, shelf, Able, Ready};
+ghost use Rattle.moves.specs.Judged.{armAt, shelfAt, meaning, Within, moveAt, exchangeHeld, hinders, exchangeAt, moveBy, exchangeSpots, exchangeBy, unfitAt, fitted, shifted, carried, swapped, shelf, Able, Ready};
+
+// Where the range of the drives stands in the head: "in the order transport, storage, import/export, drive"
+const DRIVES: usize = 3 * layout::RANGE_SIZE;
 
 // What a command comes to: types and places of the elements to carry from and to with the volumes that stand there, a refusal with its cause, or a conflict.
 pub enum Ruling {
@@ -222,6 +225,59 @@ fn judge_exchange(runs: [Range; 4], elements: &[u8], host: u8, block: &[u8]) -> 
     exchange_spots(runs, elements, host, block, arm)
 }
 
+// "when a drive can't take a cartridge's generation": the element at an address is by its type a drive, and does not take a volume.
+fn unfit(head: &[u8], generations: &[u8], masks: &[u8], kind: u8, address: u16, volume: u16) -> bool
+    requires { ⌜ headSize ≤ length (now head) ⌝ }
+    ensures { λ r. ⌜ r ≡ unfitAt (now (head .entry)) (now (generations .entry)) (now (masks .entry)) kind address volume ⌝ }
+{
+    if kind != layout::DRIVE {
+        return false;
+    }
+    let first = wire::word_at(head, DRIVES);
+    let drive = fitting::less(address as usize, first as usize);
+    !fitting::drive_takes(generations, masks, drive, volume)
+}
+
+// "The new refusal stands after step 8, for a move or either leg of an exchange that ends in a drive": what was judged, or that refusal. The volume that was
+// brought goes to bytes 6-7, the one displaced to bytes 8-9.
+fn fitted(head: &[u8], generations: &[u8], masks: &[u8], block: &[u8], ruling: Ruling) -> Ruling
+    requires { ⌜ headSize ≤ length (now head) ⌝ }
+    requires { ⌜ length (now block) ≡ 12 ⌝ }
+    ensures { λ r. ⌜ r ≡ fitted (now (head .entry)) (now (generations .entry)) (now (masks .entry)) (now (block .entry)) ruling ⌝ }
+{
+    let nearer = wire::word_at(block, 6);
+    let farther = wire::word_at(block, 8);
+    match ruling {
+        Ruling::Move { to, volume, .. } => {
+            if unfit(head, generations, masks, to.kind, nearer, volume) {
+                return Ruling::Refused(Cause::IncompatibleMedium);
+            }
+            return ruling;
+        }
+        Ruling::Exchange {
+            first,
+            second,
+            brought,
+            displaced,
+            ..
+        } => {
+            if unfit(head, generations, masks, first.kind, nearer, brought) {
+                return Ruling::Refused(Cause::IncompatibleMedium);
+            }
+            if unfit(head, generations, masks, second.kind, farther, displaced) {
+                return Ruling::Refused(Cause::IncompatibleMedium);
+            }
+            return ruling;
+        }
+        Ruling::Refused(_) => {
+            return ruling;
+        }
+        Ruling::Conflict => {
+            return ruling;
+        }
+    }
+}
+
 // "a volume leaving a storage element takes that address; leaving any other, it keeps the source it had, none included"
 fn shelf_of(elements: &[u8], address: u16, left: Spot) -> u16
     requires { ⌜ left .place < places (now elements) ⌝ }
@@ -339,6 +395,8 @@ pub fn move_medium(
     runs: [Range; 4],
     head: &mut [u8],
     elements: &mut [u8],
+    generations: &[u8],
+    masks: &[u8],
     host: u8,
     block: &[u8],
 ) -> Reply
@@ -346,9 +404,10 @@ pub fn move_medium(
     requires { ⌜ 1 ≤ host ⌝ }
     requires { ⌜ host ≤ hosts ⌝ }
     requires { ⌜ length (now block) ≡ 12 ⌝ }
-    ensures { λ r. ⌜ ((rest : Rest) (buffer : List ℕ) → ended r (lent (now (head .exit)) (now (elements .exit)) rest) buffer ≡ outcome (lent (now (head .entry)) (now (elements .entry)) rest) buffer (moveVerdict (lent (now (head .entry)) (now (elements .entry)) rest) host (now (block .entry)))) ⌝ }
+    ensures { λ r. ⌜ ((rest : Rest) (buffer : List ℕ) → rest .generations ≡ now (generations .entry) → rest .masks ≡ now (masks .entry) → ended r (lent (now (head .exit)) (now (elements .exit)) rest) buffer ≡ outcome (lent (now (head .entry)) (now (elements .entry)) rest) buffer (moveVerdict (lent (now (head .entry)) (now (elements .entry)) rest) host (now (block .entry)))) ⌝ }
 {
-    let ruling = judge_move(runs, elements, host, block);
+    let judged = judge_move(runs, elements, host, block);
+    let ruling = fitted(head, generations, masks, block, judged);
     carry_out(head, elements, host, block, ruling)
 }
 
@@ -357,6 +416,8 @@ pub fn exchange_medium(
     runs: [Range; 4],
     head: &mut [u8],
     elements: &mut [u8],
+    generations: &[u8],
+    masks: &[u8],
     host: u8,
     block: &[u8],
 ) -> Reply
@@ -364,8 +425,9 @@ pub fn exchange_medium(
     requires { ⌜ 1 ≤ host ⌝ }
     requires { ⌜ host ≤ hosts ⌝ }
     requires { ⌜ length (now block) ≡ 12 ⌝ }
-    ensures { λ r. ⌜ ((rest : Rest) (buffer : List ℕ) → ended r (lent (now (head .exit)) (now (elements .exit)) rest) buffer ≡ outcome (lent (now (head .entry)) (now (elements .entry)) rest) buffer (exchangeVerdict (lent (now (head .entry)) (now (elements .entry)) rest) host (now (block .entry)))) ⌝ }
+    ensures { λ r. ⌜ ((rest : Rest) (buffer : List ℕ) → rest .generations ≡ now (generations .entry) → rest .masks ≡ now (masks .entry) → ended r (lent (now (head .exit)) (now (elements .exit)) rest) buffer ≡ outcome (lent (now (head .entry)) (now (elements .entry)) rest) buffer (exchangeVerdict (lent (now (head .entry)) (now (elements .entry)) rest) host (now (block .entry)))) ⌝ }
 {
-    let ruling = judge_exchange(runs, elements, host, block);
+    let judged = judge_exchange(runs, elements, host, block);
+    let ruling = fitted(head, generations, masks, block, judged);
     carry_out(head, elements, host, block, ruling)
 }

@@ -3,7 +3,7 @@ use Prim.Native.Nat.{ℕ}
 use mathlib.Core.List.{List}
 use mathlib.Core.Path.{_≡_}
 use Rattle.rules.specs.Tables.{Tables, Rest}
-use Rattle.rules.specs.Order.{Outcome, Cause, InvalidOperation, InvalidField, ListLength, ListField, WrongAddress, SourceEmpty, DestinationFull}
+use Rattle.rules.specs.Order.{Outcome, Cause, InvalidOperation, InvalidField, ListLength, ListField, WrongAddress, SourceEmpty, DestinationFull, IncompatibleMedium}
 use Rattle.order.specs.declared.Reply.{Reply}
 use Rattle.order.specs.declared.Cause.{Cause as Declared}
 use Rattle.order.specs.declared.Cause.the-variants as declared
@@ -36,6 +36,7 @@ reason declared.ListField = ListField
 reason declared.WrongAddress = WrongAddress
 reason declared.SourceEmpty = SourceEmpty
 reason declared.DestinationFull = DestinationFull
+reason declared.IncompatibleMedium = IncompatibleMedium
 
 -- all that is lent beside head and elements, from the slices: a further table is one more field
 pub record Lends (rest : Rest) (tags blank : List ℕ) : Type 0 where

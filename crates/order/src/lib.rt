@@ -31,6 +31,7 @@ pub enum Cause {
     WrongAddress,
     SourceEmpty,
     DestinationFull,
+    IncompatibleMedium,
 }
 
 // What a call hands back beside the tables and the answer buffer.
@@ -120,6 +121,7 @@ pub fn refuse(head: &mut [u8], host: u8, cause: Cause) -> Reply
         Cause::WrongAddress => check(head, host, 0x21, 0x01),
         Cause::SourceEmpty => check(head, host, 0x3B, 0x0E),
         Cause::DestinationFull => check(head, host, 0x3B, 0x0D),
+        Cause::IncompatibleMedium => check(head, host, 0x30, 0x12),
     }
 }
 

@@ -1,5 +1,5 @@
 -- None of the promises is hollow: each is met by calls on the small library, whose outcomes compute. Assumes nothing.
-use Prim.Native.Nat.{ℕ, _+_, _≤_}
+use Prim.Native.Nat.{ℕ, _+_, _-_, _≤_}
 use native.Mathlib.Omega.{arith}
 use mathlib.Core.Path.{_≡_, refl, sym, ap, subst, _∙_}
 use mathlib.Core.Logic.{_≢_, ⊎-elim}
@@ -9,15 +9,17 @@ use lib.ListN.{length}
 use lib.Dec.{leb}
 use borrow.Author.Tests.{leb-true}
 use Rattle.rules.specs.Choice.{when, differ}
-use Rattle.rules.specs.Roster.{roster}
+use Rattle.rules.specs.Bytes.{byte}
+use Rattle.rules.specs.Roster.{range, roster}
 use Rattle.rules.specs.Tables.{Tables, volume, source, panel, emptyShelves}
+use Rattle.rules.specs.Fitting.{accepts}
 use Rattle.rules.specs.Sound.{sound}
-use Rattle.rules.specs.Order.{Outcome, GOOD, CHECK-CONDITION, RESERVATION-CONFLICT}
+use Rattle.rules.specs.Order.{Outcome, volumeOf, GOOD, CHECK-CONDITION, RESERVATION-CONFLICT}
 use Rattle.rules.specs.Command.{Request, Call, Command, Import, Export, Reset, serve}
 use Rattle.rules.specs.Numbers.{conditions, Foremost}
-use Rattle.rules.specs.Histories.{next, History, begun, called, imports, exports, Reply, toldTo, runRequests, replies, Mixing, none, left, right, named, From, end, more, Apart}
+use Rattle.rules.specs.Histories.{next, History, begun, called, imports, exports, Reply, toldTo, runRequests, replies, Mixing, none, left, right, named, From, end, more, Apart, AsGiven}
 use Rattle.rules.specs.Shelves.{lastShelf, sourceIn}
-use Rattle.rules.specs.Small.{element, empty, loaded, elementsOf, library, quietShowing, quietHead, small, moveBlock, exchangeBlock, readBlock, sends, asks, lentBuffer, refuses}
+use Rattle.rules.specs.Small.{element, empty, loaded, elementsOf, libraryOf, library, quietShowing, quietHead, smallElements, small, moveBlock, exchangeBlock, readBlock, sends, asks, lentBuffer, refuses}
 use Rattle.rules.specs.Cases.{Case, numbers, eventNumbers, twice, laden, locked, addressPage, geometryPage, capabilityPage, wholeModes, modeBlock}
 use Rattle.rules.proofs.Ladder.{differ-true}
 use Rattle.rules.proofs.Same.{unfit-names-none}
@@ -38,6 +40,7 @@ use Rattle.promises.proofs.Sequences.{sequences}
 use Rattle.promises.proofs.Volumes.{volumes-promised, never-twice}
 use Rattle.promises.proofs.Shelves.{last-shelf}
 use Rattle.promises.proofs.Panel.{panel-true}
+use Rattle.promises.proofs.Drives.{tables-as-given, right-drives}
 
 -- ---- a test at every member of a list
 
@@ -524,3 +527,39 @@ shift-true = panel-true _ _ _ _ (history small shift) small-sound
 shift-empty : emptyShelves (roster (passes small shift .head)) (passes small shift .elements) ≡ 2
 unfolding opened shift ready passes
 shift-empty = refl
+
+-- ---- the drives: volume 1 is of generation 2, and the drive takes 1 and 3
+
+mixed : Tables
+mixed = libraryOf (2 ∷ 1 ∷ 3 ∷ []) (0x05 ∷ []) quietHead smallElements
+
+mixed-sound : sound mixed ≡ true
+unfolding opened mixed
+mixed-sound = refl
+
+-- volume 1 is refused; volume 2 goes into the drive; an exchange that would bring volume 1 there is refused; volume 3 comes in, and takes the drive's place
+loads : List Call
+loads =
+    asks (moveBlock 0x1000 0x0100)
+    ∷ asks (moveBlock 0x1002 0x0100)
+    ∷ asks (exchangeBlock 0x1000 0x0100 0x1001)
+    ∷ Import 0x0010 3
+    ∷ ready
+    ∷ asks (exchangeBlock 0x0010 0x0100 0x1001)
+    ∷ []
+
+loads-answered : statuses (gives mixed loads) ≡ 0x02 ∷ 0x00 ∷ 0x02 ∷ 0x00 ∷ 0x02 ∷ 0x00 ∷ []
+unfolding opened mixed loads ready gives statuses
+loads-answered = refl
+
+-- the drive, at place 2, has volume 3
+loads-end : volume (passes mixed loads .elements) 2 ≡ 3
+unfolding opened mixed loads ready passes
+loads-end = refl
+
+loads-right : let v = volumeOf (passes mixed loads) 0x0100 in v ≢ 0 → accepts (byte (0x05 ∷ []) 0) (byte (2 ∷ 1 ∷ 3 ∷ []) (v - 1)) ≡ true
+unfolding opened mixed
+loads-right = right-drives mixed _ loads _ (history mixed loads) mixed-sound 0 (leb-true _ _ refl)
+
+loads-given : AsGiven mixed (passes mixed loads)
+loads-given = tables-as-given _ _ _ _ (history mixed loads)

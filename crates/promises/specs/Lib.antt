@@ -7,6 +7,7 @@ pub mod Sequences
 pub mod Volumes
 pub mod Shelves
 pub mod Panel
+pub mod Drives
 pub mod Listings
 pub mod Modes
 pub mod Replays

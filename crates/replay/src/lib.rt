@@ -37,12 +37,14 @@ fn turns<'a>(
     elements: &mut [u8],
     tags: &'a [u8],
     blank: &'a [u8],
+    generations: &'a [u8],
+    masks: &'a [u8],
     log: &[u8],
     expected: u32,
     budget: u32,
 ) -> Replayed
-    requires { ⌜ Kept runs (now head) (now elements) (now tags) (now blank) ⌝ }
-    ensures { λ r. ⌜ ended r (lent (now (head .exit)) (now (elements .exit)) (others (now (tags .entry)) (now (blank .entry)))) ≡ turnsOf budget (lent (now (head .entry)) (now (elements .entry)) (others (now (tags .entry)) (now (blank .entry)))) (now (log .entry)) expected ⌝ }
+    requires { ⌜ Kept runs (now head) (now elements) (others (now tags) (now blank) (now generations) (now masks)) ⌝ }
+    ensures { λ r. ⌜ ended r (lent (now (head .exit)) (now (elements .exit)) (others (now (tags .entry)) (now (blank .entry)) (now (generations .entry)) (now (masks .entry)))) ≡ turnsOf budget (lent (now (head .entry)) (now (elements .entry)) (others (now (tags .entry)) (now (blank .entry)) (now (generations .entry)) (now (masks .entry)))) (now (log .entry)) expected ⌝ }
 {
     let mut block = [0u8; ROOM];
     let mut list = [0u8; ROOM];
@@ -60,6 +62,8 @@ fn turns<'a>(
             elements,
             tags,
             blank,
+            generations,
+            masks,
             next,
             text,
             &mut block,
@@ -80,16 +84,29 @@ pub fn replay<'a>(
     elements: &mut [u8],
     tags: &'a [u8],
     blank: &'a [u8],
+    generations: &'a [u8],
+    masks: &'a [u8],
     log: &[u8],
     expected: u32,
     budget: u32,
 ) -> Replayed
-    ensures { λ r. ⌜ ended r (lent (now (head .exit)) (now (elements .exit)) (others (now (tags .entry)) (now (blank .entry)))) ≡ replayOf (lent (now (head .entry)) (now (elements .entry)) (others (now (tags .entry)) (now (blank .entry)))) (now (log .entry)) expected budget ⌝ }
+    ensures { λ r. ⌜ ended r (lent (now (head .exit)) (now (elements .exit)) (others (now (tags .entry)) (now (blank .entry)) (now (generations .entry)) (now (masks .entry)))) ≡ replayOf (lent (now (head .entry)) (now (elements .entry)) (others (now (tags .entry)) (now (blank .entry)) (now (generations .entry)) (now (masks .entry)))) (now (log .entry)) expected budget ⌝ }
 {
-    let checked = sound::check(head, elements, tags, blank);
+    let checked = sound::check(head, elements, tags, blank, generations, masks);
     if !checked.sound {
         return told(1, 0, 0, expected);
     }
     let runs = checked.runs;
-    turns(runs, head, elements, tags, blank, log, expected, budget)
+    turns(
+        runs,
+        head,
+        elements,
+        tags,
+        blank,
+        generations,
+        masks,
+        log,
+        expected,
+        budget,
+    )
 }

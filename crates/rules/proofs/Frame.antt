@@ -20,7 +20,7 @@ use Rattle.rules.specs.Histories.{named, namedBy, mixes, joins, Disjoint
 use Rattle.rules.proofs.Ladder.{on, when-true, never}
 use Rattle.rules.proofs.Walks.{Refusals, telling, refused-by, steps-by, move-by, exchange-by}
 use Rattle.rules.proofs.Local.{Local, OfHost, OfStock, leaves, local-comm, local-more, sense-local, attention-local, stock-local}
-use Rattle.rules.proofs.Places.{place-apart, roster-same}
+use Rattle.rules.proofs.Places.{range-same, place-apart, roster-same}
 use Rattle.rules.proofs.Soundness.{within-low, within-high}
 use Rattle.rules.proofs.Untouched.{AllOwn}
 use Rattle.rules.proofs.Panel.{shown-else}
@@ -76,6 +76,8 @@ head-same h T N t head′ front own =
     let r : roster head′ ≡ roster (t .head) = roster-same (t .head) head′ (λ j l. front j (omega arith)) in
     record {
       roster-is = sym r;
+      drives-are = sym (range-same (t .head) head′ (λ j l. front j (omega arith)) 3 (omega arith));
+      rest-is = refl;
       unit-is = ap (other h) (sym (front unitAt (omega arith)));
       own-is = λ k j i. sym (own k j i);
       held-is = λ a m. rw r;
@@ -92,6 +94,8 @@ unfolding heldByOther holder
 elements-same h T N t es holders records =
     record {
       roster-is = refl;
+      drives-are = refl;
+      rest-is = refl;
       unit-is = refl;
       own-is = λ k j i. refl;
       held-is = λ a x. ap (other h) (sym (holders _));
@@ -122,12 +126,23 @@ unfolding change
 recount-same h T N t = head-same h T N t _ (λ j i. shown-else (t .head) _ j (λ m x. omega arith)) (λ k j i. shown-else (t .head) _ j (λ m x. omega arith))
 
 pub same-refl : (h : ℕ) (T N : List ℕ) (t : Tables) → Same h T N t t
-same-refl h T N t = record { roster-is = refl; unit-is = refl; own-is = λ k j i. refl; held-is = λ a m. refl; record-is = λ a m j l. refl }
+same-refl h T N t =
+    record {
+      roster-is = refl;
+      drives-are = refl;
+      rest-is = refl;
+      unit-is = refl;
+      own-is = λ k j i. refl;
+      held-is = λ a m. refl;
+      record-is = λ a m j l. refl;
+    }
 
 pub same-trans : {h : ℕ} {T N : List ℕ} {t u w : Tables} → Same h T N t u → Same h T N u w → Same h T N t w
 same-trans a b =
     record {
       roster-is = a .roster-is ∙ b .roster-is;
+      drives-are = a .drives-are ∙ b .drives-are;
+      rest-is = a .rest-is ∙ b .rest-is;
       unit-is = a .unit-is ∙ b .unit-is;
       own-is = λ k j i. a .own-is k j i ∙ b .own-is k j i;
       held-is = λ x m. a .held-is x m ∙ b .held-is x m;

@@ -1,4 +1,4 @@
--- Each change leaves sound tables sound, where what it writes fits: a place filled is no shelf, or the panel's number is counted again behind it.
+-- Each change leaves sound tables sound, where what it writes fits: a place filled is an import/export element's, or the panel's number is counted again behind it.
 -- Assumes nothing.
 use Prim.Native.Nat.{ℕ, _-_, _<_, _≤_}
 use native.Mathlib.Omega.{arith}
@@ -8,15 +8,16 @@ use mathlib.Core.List.{List}
 use lib.ListN.{length}
 use Rattle.rules.specs.Bytes.{byte}
 use Rattle.rules.specs.Tables.{Tables, lent, hosts, unitAt, panelAt, volumes, unit, panel, volume, holder, emptyShelves, shown, HeadChange, NewSense, NewAttention, NewForAll, NewUnit, NewMask, ElementChange, NewStock, NewHolds, NewlyFree, Change, OfHead, OfElements, Recount, inHead, inElements, change, changes}
-use Rattle.rules.specs.Roster.{roster, kindAt, storage}
+use Rattle.rules.specs.Roster.{range, roster, kindAt, port}
 use Rattle.rules.specs.Order.{Verdict, Number, Prevented, Done}
 use Rattle.rules.proofs.Places.{SameRanges, roster-same, roster-placed}
 use Rattle.rules.proofs.HeadFields.{Off, sensed-else, attended-else, announced-else, unitHeld-else, unitHeld-unit, masked-else}
 use Rattle.rules.proofs.ElementFields.{HoldsAlone, volume-alone, held-alone, freed-alone}
 use Rattle.rules.proofs.Panel.{shelves-same, shelves-elsewhere, shown-else, shown-panel, panel-same}
-use Rattle.rules.proofs.Soundness.{SenseFits, AttentionFits, HeadFits, RestFits, StockFits, HoldFits, ElementsFit, Sound}
+use Rattle.rules.proofs.Soundness.{SenseFits, AttentionFits, HeadFits, RestFits, StockFits, HoldFits, ElementsFit, DrivesFit, Sound, head-ranges}
 use Rattle.rules.proofs.KeepHead.{sensed-fits, attended-fits, announced-fits, unitHeld-fits, masked-fits, shown-fits}
-use Rattle.rules.proofs.KeepElements.{fill-fits, held-fits, freed-fits, unit-fits}
+use Rattle.rules.proofs.KeepDrives.{drives-head, drives-held, drives-filled, fits-port}
+use Rattle.rules.proofs.KeepElements.{place-long, fill-fits, held-fits, freed-fits, unit-fits}
 
 -- what a change needs of the tables, that it leave them sound
 abbrev pub HeadFit : Tables → HeadChange → Type 0
@@ -28,7 +29,7 @@ HeadFit t (NewMask m) = Unit {0}
 
 abbrev pub ElementFit : Tables → ElementChange → Type 0
 ElementFit t (NewStock p v s m) =
-    (p < length (roster (t .head))) × (kindAt (roster (t .head)) p ≢ storage)
+    (p < length (roster (t .head))) × (kindAt (roster (t .head)) p ≡ port)
     × StockFits (volumes (t .rest .tags)) (roster (t .head)) (kindAt (roster (t .head)) p) v s m
     × (v ≢ 0 → (q : ℕ) → q < length (roster (t .head)) → q ≢ p → volume (t .elements) q ≢ v)
 ElementFit t (NewHolds p n h i) = HoldFits (unit (t .head)) h i
@@ -44,13 +45,15 @@ pub record Fitting (t : Tables) : Type 0 where
   pub head-fits : HeadFits (t .head)
   pub rest-fits : RestFits (t .rest)
   pub elements-fit : ElementsFit (roster (t .head)) (unit (t .head)) (volumes (t .rest .tags)) (t .elements)
+  pub drives-fit : DrivesFit t (range (t .head) 3)
 
 sound-fits : (t : Tables) → Sound t → Fitting t
-sound-fits t s = record { head-fits = s .head-fits; rest-fits = s .rest-fits; elements-fit = s .elements-fit }
+sound-fits t s = record { head-fits = s .head-fits; rest-fits = s .rest-fits; elements-fit = s .elements-fit; drives-fit = s .drives-fit }
 
 -- it shows how many shelves are empty
 counted-sound : (t : Tables) → Fitting t → panel (t .head) ≡ emptyShelves (roster (t .head)) (t .elements) → Sound t
-counted-sound t f e = record { head-fits = f .head-fits; rest-fits = f .rest-fits; elements-fit = f .elements-fit; panel-true = e }
+counted-sound t f e =
+    record { head-fits = f .head-fits; rest-fits = f .rest-fits; elements-fit = f .elements-fit; panel-true = e; drives-fit = f .drives-fit }
 
 -- ---- the head alone changes: ranges and panel stay
 
@@ -95,6 +98,7 @@ head-fitting t head′ s f r u =
       head-fits = f;
       rest-fits = s .rest-fits;
       elements-fit = rw (roster-same (t .head) head′ r, unit-kept (t .head) head′ u) (s .elements-fit);
+      drives-fit = drives-head t head′ r (s .drives-fit);
     }
 
 pub head-change-fits : (c : HeadChange) (t : Tables) → HeadFit t c → Fitting t → Fitting (lent (inHead c (t .head)) (t .elements) (t .rest))
@@ -115,6 +119,7 @@ head-change-fits (NewUnit n) t (l, own) s =
       elements-fit =
           rw (roster-same (t .head) _ (ranges-kept (NewUnit n) (t .head) tt), unitHeld-unit (t .head) n (omega (arith, s .head-fits .length-is)))
           (unit-fits _ _ _ _ (s .elements-fit) n own);
+      drives-fit = drives-head t _ (ranges-kept (NewUnit n) (t .head) tt) (s .drives-fit);
     }
 head-change-fits (NewMask m) t x s =
     head-fitting t _ s (masked-fits (t .head) m (s .head-fits)) (ranges-kept (NewMask m) (t .head) tt) (masked-else (t .head) m unitAt (omega arith))
@@ -128,12 +133,13 @@ head-change-sound c t f s =
 
 -- tables with other elements
 pub elements-fitting : (t : Tables) (es : List ℕ) → Sound t → ElementsFit (roster (t .head)) (unit (t .head)) (volumes (t .rest .tags)) es
-    → Fitting (lent (t .head) es (t .rest))
-elements-fitting t es s f = record { head-fits = s .head-fits; rest-fits = s .rest-fits; elements-fit = f }
+    → DrivesFit (lent (t .head) es (t .rest)) (range (t .head) 3) → Fitting (lent (t .head) es (t .rest))
+elements-fitting t es s f d = record { head-fits = s .head-fits; rest-fits = s .rest-fits; elements-fit = f; drives-fit = d }
 
 elements-sound : (t : Tables) (es : List ℕ) → Sound t → ElementsFit (roster (t .head)) (unit (t .head)) (volumes (t .rest .tags)) es
+    → DrivesFit (lent (t .head) es (t .rest)) (range (t .head) 3)
     → emptyShelves (roster (t .head)) es ≡ emptyShelves (roster (t .head)) (t .elements) → Sound (lent (t .head) es (t .rest))
-elements-sound t es s f e = counted-sound _ (elements-fitting t es s f) (s .panel-true ∙ sym e)
+elements-sound t es s f d e = counted-sound _ (elements-fitting t es s f d) (s .panel-true ∙ sym e)
 
 -- holders and ids alone
 holds-counted : (t : Tables) (es : List ℕ) → HoldsAlone (t .elements) es → emptyShelves (roster (t .head)) es ≡ emptyShelves (roster (t .head)) (t .elements)
@@ -143,11 +149,14 @@ element-change-sound : (c : ElementChange) (t : Tables) → ElementFit t c → S
 unfolding inElements
 element-change-sound (NewStock p v q m) t (h, k, x, fresh) s =
     elements-sound t _ s (fill-fits _ _ _ _ (s .elements-fit) p v q m h x fresh)
-    (shelves-elsewhere _ (roster-placed (t .head)) _ (s .elements-fit .length-is) p h v q m k)
+    (drives-filled t _ (s .drives-fit) p v q m (place-long _ _ _ _ (s .elements-fit) p h) (λ i l. fits-port t (head-ranges _ (s .head-fits)) p v i k l))
+    (shelves-elsewhere _ (roster-placed (t .head)) _ (s .elements-fit .length-is) p h v q m (omega arith))
 element-change-sound (NewHolds p n h i) t x s =
-    elements-sound t _ s (held-fits _ _ _ _ p n h i (s .elements-fit) x) (holds-counted t _ (held-alone (t .elements) p n h i))
+    elements-sound t _ s (held-fits _ _ _ _ p n h i (s .elements-fit) x) (drives-held t _ (s .drives-fit) _ (held-alone (t .elements) p n h i))
+    (holds-counted t _ (held-alone (t .elements) p n h i))
 element-change-sound (NewlyFree w) t x s =
-    elements-sound t _ s (freed-fits _ _ _ w _ (s .elements-fit)) (holds-counted t _ (freed-alone w (t .elements)))
+    elements-sound t _ s (freed-fits _ _ _ w _ (s .elements-fit)) (drives-held t _ (s .drives-fit) _ (freed-alone w (t .elements)))
+    (holds-counted t _ (freed-alone w (t .elements)))
 
 -- ---- the panel's number, counted again
 

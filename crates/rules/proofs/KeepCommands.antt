@@ -11,7 +11,7 @@ use borrow.Author.Tests.{eqb-true, eqb-false, leb-false}
 use Rattle.rules.specs.Choice.{when, anyFrom}
 use Rattle.rules.specs.Bytes.{byte, word}
 use Rattle.rules.specs.Tables.{Tables, lent, hosts, unitAt, places, volumes, unit, attention, attentionq, volume, holder, sensed, NewSense, Change, Recount, Sense, Attention, HoldUnit, Prevent, Hold, Free, Under, Every, inHead, inElements, change, changes}
-use Rattle.rules.specs.Roster.{Slot, roster, placeOf}
+use Rattle.rules.specs.Roster.{Slot, range, roster, placeOf}
 use Rattle.rules.specs.Sound.{within}
 use Rattle.rules.specs.Operation.{Operation, TestUnitReady, RequestSense, Reserve, Release, PreventAllow, MoveMedium, ExchangeMedium, ReadElementStatus, ModeSense, Unknown, operation}
 use Rattle.rules.specs.Order.{Verdict, Number, Prevented, Done, InvalidOperation, fits, good, check, conflict, other, volumeOf, sourceOf}
@@ -25,9 +25,9 @@ use Rattle.rules.proofs.Ladder.{on, either, any-nowhere, all-cons, all-
 use Rattle.rules.proofs.Walks.{Refusals, Passed, Moving, Exchanging, telling, refused-by, steps-by, move-by, exchange-by, reserve-by, release-by}
 use Rattle.rules.proofs.Places.{roster-same}
 use Rattle.rules.proofs.HeadFields.{sensed-else}
-use Rattle.rules.proofs.Soundness.{SenseFits, ShelfOrNone, HoldFits, ElementsFit, Sound, places-is, within-low, within-high}
+use Rattle.rules.proofs.Soundness.{SenseFits, ShelfOrNone, HoldFits, ElementsFit, DrivesFit, Sound, places-is, within-low, within-high}
 use Rattle.rules.proofs.Keep.{head-change-fits, elements-fitting, recounted-sound, change-sound, Sounds}
-use Rattle.rules.proofs.KeepMoves.{Stands, stands-of, moved-fits, exchanged-fits}
+use Rattle.rules.proofs.KeepMoves.{Stands, stands-of, moved-fits, exchanged-fits, moved-suits, exchanged-suits}
 
 -- held by another: not by nobody, not by the host itself
 pub other-of : (h o : ℕ) → o ≢ 0 → o ≢ h → other h o ≡ true
@@ -90,10 +90,10 @@ module _ (t : Tables) (s : Sound t) (h : ℕ) (l : 1 ≤ h) (m : h ≤ hosts) wh
   -- ---- MOVE and EXCHANGE: the elements change, the host's sense is cleared, and the empty shelves are counted again
 
   stood : (es : List ℕ) → ElementsFit (roster (t .head)) (unit (t .head)) (volumes (t .rest .tags)) es
-      → Sound (change Recount (lent (sensed (t .head) h 0 0 0) es (t .rest)))
+      → DrivesFit (lent (t .head) es (t .rest)) (range (t .head) 3) → Sound (change Recount (lent (sensed (t .head) h 0 0 0) es (t .rest)))
   unfolding inHead
-  stood es f =
-      recounted-sound _ (head-change-fits (NewSense h 0 0 0) (lent (t .head) es (t .rest)) (l, m, no-sense) (elements-fitting t es s f))
+  stood es f d =
+      recounted-sound _ (head-change-fits (NewSense h 0 0 0) (lent (t .head) es (t .rest)) (l, m, no-sense) (elements-fitting t es s f d))
 
   stands : (a : ℕ) → noPlace t a ≡ false → Stands (roster (t .head)) a
   unfolding noPlace
@@ -125,6 +125,7 @@ module _ (t : Tables) (s : Sound t) (h : ℕ) (l : 1 ≤ h) (m : h ≤ hosts) wh
           stood _
           (moved-fits _ _ _ (t .elements) from to _ (s .elements-fit) (stands from (x .from-stands)) (stands to (x .to-stands))
           (carried from (x .from-stands)) (full from (x .from-full)))
+          (moved-suits t s from to _ _ (stands from (x .from-stands)) (stands to (x .to-stands)) (unfold volumeOf in x .to-fit))
 
   exchange-sound : (block : List ℕ) → Sounds t (exchange t h block)
   unfolding exchange
@@ -145,6 +146,8 @@ module _ (t : Tables) (s : Sound t) (h : ℕ) (l : 1 ≤ h) (m : h ≤ hosts) wh
           stood _
           (exchanged-fits _ _ _ (t .elements) from first second _ _ (s .elements-fit) (stands from (x .from-stands)) (stands first (x .first-stands))
           (stands second (x .second-stands)) (carried first (x .first-stands)) (carried from (x .from-stands)) (full from (x .from-full)) (full first (x .first-full)) (eqb-false _ _ (x .apart)))
+          (exchanged-suits t s from first second _ _ _ _ (stands from (x .from-stands)) (stands first (x .first-stands)) (stands second (x .second-stands))
+          (unfold volumeOf in x .first-fit) (unfold volumeOf in x .second-fit))
 
   -- ---- RESERVE and RELEASE
 

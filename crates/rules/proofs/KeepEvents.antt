@@ -55,7 +55,7 @@ module _ (t : Tables) (s : Sound t) where
           let kind = kind-in (roster (t .head)) a known ∙ k in
           let absent = any-nowhere (λ p. eqb (volume (t .elements) p) v) (places (t .elements)) 0 (any-first _ _ (any-rest _ _ e₁)) in (
             place-in (roster (t .head)) a known,
-            omega arith,
+            kind,
             imported-fits (volumes (t .rest .tags)) (roster (t .head)) _ v kind (eqb-false v 0 (any-first _ _ e)) (ltb-false _ _ (any-first _ _ e₁)),
             λ _ q i _. eqb-false _ _ (absent q (omega arith) (omega (arith, places-is t s))),
           )
@@ -67,7 +67,7 @@ module _ (t : Tables) (s : Sound t) where
       (λ k. on (Sounds t) _ (λ _. tt)
       (λ _.
       announced-sound _ 0 0
-      (place-in (roster (t .head)) a (omega arith), omega (arith, kind-in (roster (t .head)) a (omega arith)), empty-fits _ _ _, λ n. absurd (n refl))))
+      (place-in (roster (t .head)) a (omega arith), kind-in (roster (t .head)) a (omega arith) ∙ k, empty-fits _ _ _, λ n. absurd (n refl))))
 
 restarted-sound : (n h : ℕ) (t : Tables) → 1 ≤ h → h + n ≤ hosts + 1 → Sound t → Sound (changes (restartedFrom n h) t)
 unfolding restartedFrom changes

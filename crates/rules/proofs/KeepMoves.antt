@@ -1,16 +1,19 @@
 -- A move and an exchange leave a sound element table sound: what is filled stands nowhere else. Assumes nothing.
-use Prim.Native.Nat.{ℕ, _<_, _≤_}
+use Prim.Native.Nat.{ℕ, _+_, _<_, _≤_}
 use native.Mathlib.Omega.{arith}
 use mathlib.Core.Path.{_≡_, refl, sym, _∙_}
 use mathlib.Core.Logic.{_≢_}
+use mathlib.Core.Bool.{false}
 use mathlib.Core.List.{List}
 use lib.ListN.{length}
-use Rattle.rules.specs.Tables.{volume, filled}
-use Rattle.rules.specs.Roster.{Slot, kindAt, kindOf, placeOf, transport}
+use Rattle.rules.specs.Tables.{Tables, lent, elementAt, elementSize, volume, filled}
+use Rattle.rules.specs.Roster.{Slot, range, roster, kindAt, kindOf, placeOf, transport}
+use Rattle.rules.specs.Fitting.{maskOf, driveTakes, unfit}
 use Rattle.rules.proofs.Ladder.{either}
 use Rattle.rules.proofs.Places.{place-in, kind-in, place-apart}
-use Rattle.rules.proofs.ElementFields.{volume-else, filled-volume}
-use Rattle.rules.proofs.Soundness.{ShelfOrNone, ElementsFit, volumes-apart}
+use Rattle.rules.proofs.ElementFields.{filled-length, volume-else, filled-volume}
+use Rattle.rules.proofs.Soundness.{ShelfOrNone, ElementsFit, volumes-apart, DrivesFit, Sound, head-ranges}
+use Rattle.rules.proofs.KeepDrives.{drives-filled, fits-address}
 use Rattle.rules.proofs.KeepElements.{place-long, fill-fits, empty-fits, carried-fits}
 
 -- an address that stands and is no transport's: its place, and what may be put there
@@ -117,3 +120,56 @@ module _ (ss : List Slot) (u top : ℕ) where
           (λ n.
           let a = elsewhere v q z (sym (volume-else es₂ p₂ v₁ s 0 q n) ∙ e) in
           volumes-apart ss u top es f pf q (x .inside) i (λ m. a .0 (sym m)) z (sym (a .2)))
+
+-- ---- the drives: what is put into one is what it takes
+
+module _ (t : Tables) (s : Sound t) where
+  abbrev ss : List Slot
+  ss = roster (t .head)
+
+  -- the tables with other elements
+  abbrev Suits : List ℕ → Type 0
+  Suits es = DrivesFit (lent (t .head) es (t .rest)) (range (t .head) 3)
+
+  -- a place that stands, in elements that are as many as they were
+  there : (es : List ℕ) (a : ℕ) → length es ≡ length (t .elements) → Stands ss a → elementAt (placeOf ss a) + elementSize ≤ length es
+  there es a n x = omega (arith, s .elements-fit .length-is, x .inside)
+
+  leave-suits : (es : List ℕ) (a : ℕ) → length es ≡ length (t .elements) → Stands ss a → Suits es → Suits (filled es (placeOf ss a) 0 0 0)
+  leave-suits es a n x d = drives-filled (lent (t .head) es (t .rest)) _ d (placeOf ss a) 0 0 0 (there es a n x) (λ k h e z. absurd (z refl))
+
+  put-suits : (es : List ℕ) (a v q : ℕ) → length es ≡ length (t .elements) → Stands ss a → unfit t a v ≡ false → Suits es
+      → Suits (filled es (placeOf ss a) v q 0)
+  unfolding driveTakes maskOf
+  put-suits es a v q n x u d =
+      drives-filled (lent (t .head) es (t .rest)) _ d (placeOf ss a) v q 0 (there es a n x)
+      (λ k h e z. fits-address t (head-ranges _ (s .head-fits)) a v k (x .is-known) u h e z)
+
+  pub moved-suits : (from to v q : ℕ) → Stands ss from → Stands ss to → unfit t to v ≡ false
+      → Suits (filled (filled (t .elements) (placeOf ss from) 0 0 0) (placeOf ss to) v q 0)
+  moved-suits from to v q x y u =
+      put-suits _ to v q (filled-length (t .elements) (placeOf ss from) 0 0 0) y u (leave-suits (t .elements) from refl x (s .drives-fit))
+
+  pub exchanged-suits : (from first second v w q r : ℕ) → Stands ss from → Stands ss first → Stands ss second → unfit t first v ≡ false → unfit t second w ≡ false
+      → Suits
+      (filled (filled (filled (filled (t .elements) (placeOf ss from) 0 0 0) (placeOf ss first) 0 0 0) (placeOf ss second) w q 0) (placeOf ss first) v r 0)
+  exchanged-suits from first second v w q r x y z f g =
+      put-suits es₃ first v r n₃ y f (put-suits es₂ second w q n₂ z g (leave-suits es₁ first n₁ y (leave-suits (t .elements) from refl x (s .drives-fit))))
+    where
+      es₁ : List ℕ
+      es₁ = filled (t .elements) (placeOf ss from) 0 0 0
+
+      n₁ : length es₁ ≡ length (t .elements)
+      n₁ = filled-length (t .elements) (placeOf ss from) 0 0 0
+
+      es₂ : List ℕ
+      es₂ = filled es₁ (placeOf ss first) 0 0 0
+
+      n₂ : length es₂ ≡ length (t .elements)
+      n₂ = filled-length es₁ (placeOf ss first) 0 0 0 ∙ n₁
+
+      es₃ : List ℕ
+      es₃ = filled es₂ (placeOf ss second) w q 0
+
+      n₃ : length es₃ ≡ length (t .elements)
+      n₃ = filled-length es₂ (placeOf ss second) w q 0 ∙ n₂

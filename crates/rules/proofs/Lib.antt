@@ -12,8 +12,11 @@ pub mod Operations
 pub mod Walks
 pub mod Acts
 pub mod Pages
+pub mod Ascending
+pub mod Typed
 pub mod KeepHead
 pub mod KeepElements
+pub mod KeepDrives
 pub mod Keep
 pub mod KeepMoves
 pub mod KeepCommands
@@ -32,10 +35,10 @@ pub mod Volumes
 pub mod Shelves
 pub mod Rungs
 pub mod Loops
-pub mod Ascending
 pub mod Header
 pub mod Muting
 pub mod Ranged
+pub mod Given
 pub mod Answerless
 pub mod Replaying
 pub mod Logs

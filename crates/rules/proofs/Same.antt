@@ -7,9 +7,10 @@ use mathlib.Core.List.{List, [], _∷_, List·Memᴰ}
 use Rattle.rules.specs.Choice.{when}
 use Rattle.rules.specs.Bytes.{byte, word}
 use Rattle.rules.specs.Tables.{Tables, hosts, hostAt, attentionAt, elementAt, elementSize, unit, key, asc, ascq, attention, attentionq, volume, source}
-use Rattle.rules.specs.Roster.{roster, placeOf}
+use Rattle.rules.specs.Roster.{range, roster, placeOf}
 use Rattle.rules.specs.Sound.{within}
 use Rattle.rules.specs.Order.{Verdict, other, heldByOther, volumeOf, sourceOf, afterAttention, afterUnit, guarded}
+use Rattle.rules.specs.Fitting.{maskOf, driveTakes, unfit}
 use Rattle.rules.specs.Moves.{transportUsed, noTransport, noPlace, leave, shelfOf, carry, moveOf, move, exchangeOf, exchange}
 use Rattle.rules.specs.Sense.{tellsAttention, requestSense}
 use Rattle.rules.specs.Operation.{Operation, TestUnitReady, RequestSense, Reserve, Release, PreventAllow, MoveMedium, ExchangeMedium, ReadElementStatus, ModeSense, Unknown, operation}
@@ -41,10 +42,12 @@ pub unfit-names-none : (block : List ℕ) → blockFits block ≡ false → name
 unfolding named
 unfit-names-none block e = when-false (blockFits block) (namedBy (operation block) block) [] e
 
--- t and u are alike in all that a command of host h reads which touches T and names N: the elements there are, whether another host holds the
--- unit or an element touched, the host's own bytes of the head, and the bytes of the elements named
+-- t and u are alike in all that a command of host h reads which touches T and names N: the elements there are, what no call writes, whether another
+-- host holds the unit or an element touched, the host's own bytes of the head, and the bytes of the elements named
 pub record Same (h : ℕ) (T N : List ℕ) (t u : Tables) : Type 0 where
   pub roster-is : roster (t .head) ≡ roster (u .head)
+  pub drives-are : range (t .head) 3 ≡ range (u .head) 3
+  pub rest-is : t .rest ≡ u .rest
   pub unit-is : other h (unit (t .head)) ≡ other h (unit (u .head))
   pub own-is : h ≤ hosts → (j : ℕ) → OfHost h j → byte (t .head) j ≡ byte (u .head) j
   pub held-is : (a : ℕ) → List·Memᴰ a T → heldByOther t h a ≡ heldByOther u h a
@@ -102,6 +105,10 @@ module _ (h : ℕ) (T N : List ℕ) (t u : Tables) (k : h ≤ hosts) (s : Same h
   unfolding carry shelfOf
   carry-is a b m = cc (s .roster-is, volume-is a m, source-is a m)
 
+  unfit-is : (a b : ℕ) → List·Memᴰ b N → unfit t a (volumeOf t b) ≡ unfit u a (volumeOf u b)
+  unfolding unfit driveTakes maskOf
+  unfit-is a b m = cc (s .roster-is, s .drives-are, s .rest-is, volume-is b m)
+
   attention-is : attention (t .head) h ≡ attention (u .head) h
   unfolding attention
   attention-is = s .own-is k (attentionAt h) (omega arith, omega arith)
@@ -135,6 +142,7 @@ module _ (h : ℕ) (T N : List ℕ) (t u : Tables) (k : h ≤ hosts) (s : Same h
         s .held-is to z,
         volume-is from m,
         volume-is to n,
+        unfit-is to from m,
         leave-is from,
         carry-is from to m,
       )
@@ -156,6 +164,8 @@ module _ (h : ℕ) (T N : List ℕ) (t u : Tables) (k : h ≤ hosts) (s : Same h
         volume-is from m,
         volume-is first n,
         volume-is second o,
+        unfit-is first from m,
+        unfit-is second first n,
         leave-is from,
         leave-is first,
         carry-is first second n,

@@ -9,9 +9,11 @@ use lib.ListN.{length, getD}
 use lib.Dec.{eqb, leb, ltb}
 use borrow.Author.Tests.{eqb-true, eqb-false, leb-true, ltb-true, ltb-false, eq-eqb, le-leb}
 use Rattle.rules.specs.Choice.{when, allOf, differ, below}
-use Rattle.rules.specs.Tables.{Tables, Rest, headSize, elementSize, tagSize, hosts, places, volumes, unit, key, asc, ascq, attention, attentionq, volume, source, holder, id, mark, zeroByte, panel, emptyShelves}
+use Rattle.rules.specs.Bytes.{byte}
+use Rattle.rules.specs.Tables.{Tables, Rest, headSize, elementSize, tagSize, hosts, places, volumes, unit, key, asc, ascq, attention, attentionq, volume, source, holder, id, mark, zeroByte, panel, emptyShelves, mostGenerations}
 use Rattle.rules.specs.Roster.{Slot, Range, range, ranges, roster, kindAt, kindOf, transport, storage, port}
-use Rattle.rules.specs.Sound.{within, countsSound, behind, rangeSound, noOverlap, clear, rangesSound, transportEmpty, sourceSound, markSound, stockSound, holdSound, once, senseSound, attentionSound, headSound, labelsSound, restSound, elementsSound, sound, panelSound}
+use Rattle.rules.specs.Sound.{within, countsSound, behind, rangeSound, noOverlap, clear, rangesSound, transportEmpty, sourceSound, markSound, stockSound, holdSound, once, senseSound, attentionSound, headSound, labelsSound, generationsSound, restSound, elementsSound, sound, panelSound, drivesSound}
+use Rattle.rules.specs.Fitting.{suited}
 use Rattle.rules.proofs.Ladder.{either, if-true, if-of, unless-true, unless-of, any-cases, any-by-first, any-by-rest, any-nil, all-first, all-rest, all-cons, all-nil, differ-true, ne-differ, below-at, below-of}
 
 -- ---- small tests
@@ -272,6 +274,12 @@ head-true head e =
       attentions = λ h l m. attention-true _ _ (host-at (λ h. attentionSound (attention head h) (attentionq head h)) (all-first _ _ (all-rest _ _ e₄)) h l m);
     }
 
+pub head-ranges : (head : List ℕ) → HeadFits head → rangesSound (ranges head) ≡ true
+head-ranges head f =
+    let four = ranges-four head in
+    ranges-of (range head 0) (ranges head) (λ k h. rw (ranges-get head k (omega arith)) (f .range-sound k (omega arith)))
+    (λ j k l h. rw (ranges-get head j (omega arith), ranges-get head k (omega arith)) (f .ranges-apart j k l (omega arith)))
+
 pub head-of : (head : List ℕ) → HeadFits head → headSound head ≡ true
 unfolding headSound countsSound
 head-of head f =
@@ -281,9 +289,7 @@ head-of head f =
     (all-cons _ _ (within-of _ _ _ (f .elements-some) (f .elements-most))
     (all-cons _ _ (within-of _ _ _ (f .transports-some) (f .transports-most)) (all-cons _ _ (le-leb _ _ (f .homes-some)) all-nil)))
     (all-cons _ _
-    (ranges-of (range head 0) (ranges head)
-    (λ k h. rw (ranges-get head k (omega arith)) (f .range-sound k (omega arith)))
-    (λ j k l h. rw (ranges-get head j (omega arith), ranges-get head k (omega arith)) (f .ranges-apart j k l (omega arith))))
+    (head-ranges head f)
     (all-cons _ _ (le-leb _ _ (f .unit-small))
     (all-cons _ _ (host-of (λ h. senseSound (key head h) (asc head h) (ascq head h)) (λ h l m. sense-of _ _ _ (f .senses h l m)))
     (all-cons _ _ (host-of (λ h. attentionSound (attention head h) (attentionq head h)) (λ h l m. attention-of _ _ (f .attentions h l m))) all-nil)))))
@@ -310,18 +316,38 @@ labels-of tags blank f =
     all-cons _ _ (le-leb _ _ (f .volumes-most))
     (all-cons _ _ (eq-eqb _ _ (f .tags-length)) (all-cons _ _ (eq-eqb _ _ (f .blank-length)) all-nil))
 
+-- ---- the generations of V volumes
+
+pub record GenerationsFit (top : ℕ) (generations : List ℕ) : Type 0 where
+  pub length-is : length generations ≡ top
+  pub each-in : (i : ℕ) → i < top → within 1 mostGenerations (byte generations i) ≡ true
+
+generations-true : (top : ℕ) (generations : List ℕ) → generationsSound top generations ≡ true → GenerationsFit top generations
+unfolding generationsSound
+generations-true top generations e =
+    record {
+      length-is = eqb-true _ _ (all-first _ _ e);
+      each-in = below-at top (λ i. within 1 mostGenerations (byte generations i)) (all-first _ _ (all-rest _ _ e));
+    }
+
+generations-of : (top : ℕ) (generations : List ℕ) → GenerationsFit top generations → generationsSound top generations ≡ true
+unfolding generationsSound
+generations-of top generations f = all-cons _ _ (eq-eqb _ _ (f .length-is)) (all-cons _ _ (below-of top _ (f .each-in)) all-nil)
+
 -- ---- the tables that no call writes
 
 pub record RestFits (r : Rest) : Type 0 where
   pub labels-fit : LabelsFit (r .tags) (r .blank)
+  pub generations-fit : GenerationsFit (volumes (r .tags)) (r .generations)
 
 pub rest-true : (r : Rest) → restSound r ≡ true → RestFits r
 unfolding restSound
-rest-true r e = record { labels-fit = labels-true _ _ e }
+rest-true r e =
+    record { labels-fit = labels-true _ _ (all-first _ _ e); generations-fit = generations-true _ _ (all-first _ _ (all-rest _ _ e)) }
 
 pub rest-of : (r : Rest) → RestFits r → restSound r ≡ true
 unfolding restSound
-rest-of r f = labels-of _ _ (f .labels-fit)
+rest-of r f = all-cons _ _ (labels-of _ _ (f .labels-fit)) (all-cons _ _ (generations-of _ _ (f .generations-fit)) all-nil)
 
 -- ---- the elements, where u holds the unit and top is the last volume number
 
@@ -377,6 +403,24 @@ volumes-apart ss u top es f p q i j n z e = go (ltb q p) refl
     go true x = f .distinct p q i (ltb-true q p x) z (sym e)
     go false x = let y = ltb-false q p x in f .distinct q p j (omega arith) (omega arith) e
 
+-- ---- the drives
+
+pub record DrivesFit (t : Tables) (drives : Range) : Type 0 where
+  pub masks-length : length (t .rest .masks) ≡ drives .count
+  pub each-suited : (k : ℕ) → k < drives .count → suited t (drives .first + k) ≡ true
+
+pub drives-true : (t : Tables) (drives : Range) → drivesSound t drives ≡ true → DrivesFit t drives
+unfolding drivesSound
+drives-true t drives e =
+    record {
+      masks-length = eqb-true _ _ (all-first _ _ e);
+      each-suited = below-at (drives .count) (λ k. suited t (drives .first + k)) (all-first _ _ (all-rest _ _ e));
+    }
+
+drives-of : (t : Tables) (drives : Range) → DrivesFit t drives → drivesSound t drives ≡ true
+unfolding drivesSound
+drives-of t drives f = all-cons _ _ (eq-eqb _ _ (f .masks-length)) (all-cons _ _ (below-of (drives .count) _ (f .each-suited)) all-nil)
+
 -- ---- the whole
 
 pub record Sound (t : Tables) : Type 0 where
@@ -384,15 +428,20 @@ pub record Sound (t : Tables) : Type 0 where
   pub rest-fits : RestFits (t .rest)
   pub elements-fit : ElementsFit (roster (t .head)) (unit (t .head)) (volumes (t .rest .tags)) (t .elements)
   pub panel-true : panel (t .head) ≡ emptyShelves (roster (t .head)) (t .elements)
+  pub drives-fit : DrivesFit t (range (t .head) 3)
 
 pub sound-true : (t : Tables) → sound t ≡ true → Sound t
 unfolding sound panelSound
 sound-true t e =
+    let e₁ = all-rest _ _ e in
+    let e₂ = all-rest _ _ e₁ in
+    let e₃ = all-rest _ _ e₂ in
     record {
       head-fits = head-true _ (all-first _ _ e);
-      rest-fits = rest-true _ (all-first _ _ (all-rest _ _ e));
-      elements-fit = elements-true _ _ _ _ (all-first _ _ (all-rest _ _ (all-rest _ _ e)));
-      panel-true = eqb-true _ _ (all-first _ _ (all-rest _ _ (all-rest _ _ (all-rest _ _ e))));
+      rest-fits = rest-true _ (all-first _ _ e₁);
+      elements-fit = elements-true _ _ _ _ (all-first _ _ e₂);
+      panel-true = eqb-true _ _ (all-first _ _ e₃);
+      drives-fit = drives-true t _ (all-first _ _ (all-rest _ _ e₃));
     }
 
 pub sound-of : (t : Tables) → Sound t → sound t ≡ true
@@ -400,7 +449,8 @@ unfolding sound panelSound
 sound-of t s =
     all-cons _ _ (head-of _ (s .head-fits))
     (all-cons _ _ (rest-of _ (s .rest-fits))
-    (all-cons _ _ (elements-of _ _ _ _ (s .elements-fit)) (all-cons _ _ (eq-eqb _ _ (s .panel-true)) all-nil)))
+    (all-cons _ _ (elements-of _ _ _ _ (s .elements-fit))
+    (all-cons _ _ (eq-eqb _ _ (s .panel-true)) (all-cons _ _ (drives-of t _ (s .drives-fit)) all-nil))))
 
 -- ---- how many elements
 

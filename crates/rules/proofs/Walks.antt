@@ -10,7 +10,8 @@ use Rattle.rules.specs.Bytes.{byte}
 use Rattle.rules.specs.Tables.{Tables, places, unit, holder, attention, attentionq, Sense, Attention, HoldUnit, Free, Under, Recount}
 use Rattle.rules.specs.Roster.{Slot, roster}
 use Rattle.rules.specs.Operation.{Operation, TestUnitReady, RequestSense, Reserve, Release, PreventAllow, MoveMedium, ExchangeMedium, ReadElementStatus, ModeSense, Unknown}
-use Rattle.rules.specs.Order.{Verdict, Done, CHECK-CONDITION, Cause, InvalidOperation, InvalidField, ListLength, ListField, WrongAddress, SourceEmpty, DestinationFull, good, check, refused, conflict, other, volumeOf, afterAttention, afterUnit, guarded}
+use Rattle.rules.specs.Order.{Verdict, Done, CHECK-CONDITION, Cause, InvalidOperation, InvalidField, ListLength, ListField, WrongAddress, SourceEmpty, DestinationFull, IncompatibleMedium, good, check, refused, conflict, other, volumeOf, afterAttention, afterUnit, guarded}
+use Rattle.rules.specs.Fitting.{unfit}
 use Rattle.rules.specs.Moves.{noPlace, leave, carry, moveOf, exchangeOf}
 use Rattle.rules.specs.Holds.{faultsFrom, granted, reserveUnit, reserveElements, reserve, releaseUnit, release, descriptors}
 use Rattle.rules.specs.Form.{fault, formed}
@@ -27,6 +28,7 @@ refused-by P h f ListField = f _ _
 refused-by P h f WrongAddress = f _ _
 refused-by P h f SourceEmpty = f _ _
 refused-by P h f DestinationFull = f _ _
+refused-by P h f IncompatibleMedium = f _ _
 
 -- the attention told, and cleared
 unfoldable pub telling : Tables → ℕ → Verdict
@@ -57,6 +59,7 @@ pub record Moving (t : Tables) (from to : ℕ) : Type 0 where
   pub to-stands : noPlace t to ≡ false
   pub from-full : eqb (volumeOf t from) 0 ≡ false
   pub to-empty : differ (volumeOf t to) 0 ≡ false
+  pub to-fit : unfit t to (volumeOf t from) ≡ false
 
 -- those of an EXCHANGE
 pub record Exchanging (t : Tables) (from first second : ℕ) : Type 0 where
@@ -67,6 +70,8 @@ pub record Exchanging (t : Tables) (from first second : ℕ) : Type 0 where
   pub from-full : eqb (volumeOf t from) 0 ≡ false
   pub first-full : eqb (volumeOf t first) 0 ≡ false
   pub second-empty : allOf (differ (volumeOf t second) 0 ∷ differ second from ∷ []) ≡ false
+  pub first-fit : unfit t first (volumeOf t from) ≡ false
+  pub second-fit : unfit t second (volumeOf t first) ≡ false
 
 module _ (P : Verdict → Type 0) (t : Tables) (h : ℕ) (r : Refusals P t h) where
   -- ---- steps 1 to 4
@@ -111,24 +116,32 @@ module _ (P : Verdict → Type 0) (t : Tables) (h : ℕ) (r : Refusals P t h) wh
   pub move-by : (arm from to : ℕ) → (Moving t from to → P (good h (leave t from ∷ carry t from to ∷ Recount ∷ []))) → P (moveOf t h arm from to)
   unfolding moveOf
   move-by arm from to p =
-      on P _ (λ _. r .refuses WrongAddress)
+      on P _ (λ _. r .refuses _)
       λ e. on P _ (λ _. r .conflicts)
-      λ _. on P _ (λ _. r .refuses SourceEmpty)
-      λ full. on P _ (λ _. r .refuses DestinationFull)
-      λ empty.
+      λ _. on P _ (λ _. r .refuses _)
+      λ full. on P _ (λ _. r .refuses _)
+      λ empty. on P _ (λ _. r .refuses _)
+      λ fit.
       let e₁ = any-rest _ _ e in
-      p (record { from-stands = any-first _ _ e₁; to-stands = any-first _ _ (any-rest _ _ e₁); from-full = full; to-empty = empty })
+      p (record {
+        from-stands = any-first _ _ e₁;
+        to-stands = any-first _ _ (any-rest _ _ e₁);
+        from-full = full;
+        to-empty = empty;
+        to-fit = fit;
+      })
 
   pub exchange-by : (arm from first second : ℕ)
       → (Exchanging t from first second → P (good h (leave t from ∷ leave t first ∷ carry t first second ∷ carry t from first ∷ Recount ∷ [])))
       → P (exchangeOf t h arm from first second)
   unfolding exchangeOf
   exchange-by arm from first second p =
-      on P _ (λ _. r .refuses WrongAddress)
+      on P _ (λ _. r .refuses _)
       λ e. on P _ (λ _. r .conflicts)
-      λ _. on P _ (λ _. r .refuses SourceEmpty)
-      λ full. on P _ (λ _. r .refuses DestinationFull)
-      λ empty.
+      λ _. on P _ (λ _. r .refuses _)
+      λ full. on P _ (λ _. r .refuses _)
+      λ empty. on P _ (λ _. r .refuses _)
+      λ fit.
       let e₁ = any-rest _ _ e in
       let e₂ = any-rest _ _ e₁ in
       let e₃ = any-rest _ _ e₂ in
@@ -140,6 +153,8 @@ module _ (P : Verdict → Type 0) (t : Tables) (h : ℕ) (r : Refusals P t h) wh
         from-full = any-first _ _ full;
         first-full = any-first _ _ (any-rest _ _ full);
         second-empty = empty;
+        first-fit = any-first _ _ fit;
+        second-fit = any-first _ _ (any-rest _ _ fit);
       })
 
   -- ---- RESERVE and RELEASE
@@ -148,7 +163,7 @@ module _ (P : Verdict → Type 0) (t : Tables) (h : ℕ) (r : Refusals P t h) wh
   unfolding faultsFrom
   faults-by ss list zero k v p = p
   faults-by ss list (suc n) k v p =
-      on P _ (λ _. r .refuses ListField) (λ _. on P _ (λ _. r .refuses WrongAddress) (λ _. faults-by ss list n (suc k) v p))
+      on P _ (λ _. r .refuses ListField) (λ _. on P _ (λ _. r .refuses _) (λ _. faults-by ss list n (suc k) v p))
 
   pub reserve-by : (block list : List ℕ)
       → (anyFrom (λ p. other h (holder (t .elements) p)) (places (t .elements)) 0 ≡ false → P (good h (HoldUnit h ∷ [])))

@@ -10,7 +10,7 @@ use Rattle.rules.specs.Bytes.{high, low}
 use Rattle.rules.specs.Tables.{Tables, row}
 use Rattle.rules.specs.Order.{Outcome}
 use Rattle.rules.specs.Command.{Call, Import, Export, Reset, serve}
-use Rattle.rules.specs.Small.{Host, hostBytes, quiet, senses, awaits, headOf, quietShowing, element, empty, loaded, elementsOf, library, quietHead, smallElements, small, moveBlock, exchangeBlock, readBlock, reserveBlock, naming, sends, asks, lentBuffer, ends, checks, refuses}
+use Rattle.rules.specs.Small.{Host, hostBytes, quiet, senses, awaits, headShowing, headOf, quietShowing, element, empty, loaded, elementsOf, libraryOf, library, quietHead, smallElements, small, moveBlock, exchangeBlock, readBlock, reserveBlock, naming, sends, asks, lentBuffer, endsOn, ends, checks, refuses}
 
 pub data Name : Type 0 where
   P1 : Name
@@ -84,6 +84,19 @@ pub data Name : Type 0 where
   one-shelf-too-few : Name
   one-shelf-too-many : Name
   shelves-in-the-high-byte : Name
+  MOVE-wrong-generation : Name
+  MOVE-wrong-generation-drive-full : Name
+  MOVE-wrong-generation-to-a-shelf : Name
+  MOVE-of-generation-8 : Name
+  EXCHANGE-wrong-generation-to-the-first : Name
+  EXCHANGE-wrong-generation-to-the-second : Name
+  EXCHANGE-wrong-generation-back-to-the-source : Name
+  import-of-any-generation : Name
+  ill-fitting-volume-in-the-drive : Name
+  generation-0 : Name
+  generation-9 : Name
+  one-generation-too-few : Name
+  one-mask-too-many : Name
 
 pub record Case : Type 0 where
   pub name : Name
@@ -436,13 +449,13 @@ modeCases =
     }
     ∷ []
 
--- 106 transports, and nothing else but a shelf
+-- 106 transports, and nothing else but a shelf and a drive
 unfoldable pub armsHead : Host → List ℕ
 armsHead one =
-    0x00 ∷ 0x01 ∷ 0 ∷ 106 ∷ 0x10 ∷ 0x00 ∷ 0 ∷ 1 ∷ 0 ∷ 0 ∷ 0 ∷ 0 ∷ 0 ∷ 0 ∷ 0 ∷ 0 ∷ 0 ∷ 0 ∷ hostBytes one ++ replicate 35 0 ++ (0 ∷ 1 ∷ [])
+    0x00 ∷ 0x01 ∷ 0 ∷ 106 ∷ 0x10 ∷ 0x00 ∷ 0 ∷ 1 ∷ 0 ∷ 0 ∷ 0 ∷ 0 ∷ 0x01 ∷ 0x00 ∷ 0 ∷ 1 ∷ 0 ∷ 0 ∷ hostBytes one ++ replicate 35 0 ++ (0 ∷ 1 ∷ [])
 
 unfoldable pub armsElements : List ℕ
-armsElements = replicate 856 0
+armsElements = replicate 864 0
 
 -- 3Fh has 258 bytes before cutting, 1Eh alone 218
 unfoldable pub longCases : List Case
@@ -548,11 +561,84 @@ panelCases =
     ∷ unsoundPanel shelves-in-the-high-byte 0x0102
     ∷ []
 
+-- ---- "Wrong cartridge, wrong drive": volumes of these generations, a drive that takes those of a mask
+
+-- refused with 5/30/12
+unfoldable pub wrongDrive : Name → List ℕ → ℕ → List ℕ → List ℕ → Case
+wrongDrive name generations free elements block =
+    record {
+      name = name;
+      on = libraryOf generations (0x01 ∷ []) (quietShowing free) elements;
+      call = asks block;
+      gives = endsOn 0x02 (libraryOf generations (0x01 ∷ []) (headShowing free 0 0 (senses 5 0x30 0x12) quiet quiet) elements);
+    }
+
+unfoldable pub fitMoves : List Case
+fitMoves =
+    wrongDrive MOVE-wrong-generation (2 ∷ 1 ∷ 1 ∷ []) 2 smallElements (moveBlock 0x1000 0x0100)
+    -- "The new refusal stands after step 8"
+    ∷ (let elements = elementsOf empty (loaded 2) (loaded 1) empty empty empty in
+    let on = libraryOf (2 ∷ 1 ∷ 1 ∷ []) (0x01 ∷ []) in
+    record {
+      name = MOVE-wrong-generation-drive-full;
+      on = on (quietShowing 3) elements;
+      call = asks (moveBlock 0x1000 0x0100);
+      gives = endsOn 0x02 (on (headShowing 3 0 0 (senses 5 0x3B 0x0D) quiet quiet) elements);
+    })
+    -- "for a move .. that ends in a drive"
+    ∷ record {
+      name = MOVE-wrong-generation-to-a-shelf;
+      on = libraryOf (2 ∷ 1 ∷ 1 ∷ []) (0x00 ∷ []) quietHead smallElements;
+      call = asks (moveBlock 0x1000 0x1003);
+      gives = endsOn 0x00 (libraryOf (2 ∷ 1 ∷ 1 ∷ []) (0x00 ∷ []) quietHead (elementsOf empty empty empty empty (loaded 2) (element 1 0x1000 0 0 0)));
+    }
+    -- "a mask (bit g-1)"
+    ∷ record {
+      name = MOVE-of-generation-8;
+      on = libraryOf (8 ∷ 1 ∷ 1 ∷ []) (0x80 ∷ []) quietHead smallElements;
+      call = asks (moveBlock 0x1000 0x0100);
+      gives = endsOn 0x00 (libraryOf (8 ∷ 1 ∷ 1 ∷ []) (0x80 ∷ []) (quietShowing 3) (elementsOf empty (element 1 0x1000 0 0 0) empty empty (loaded 2) empty));
+    }
+    ∷ []
+
+unfoldable pub fitExchanges : List Case
+fitExchanges =
+    -- "either leg of an exchange that ends in a drive"
+    wrongDrive EXCHANGE-wrong-generation-to-the-first (2 ∷ 1 ∷ 1 ∷ []) 3 (elementsOf empty (loaded 2) (loaded 1) empty empty empty) (exchangeBlock 0x1000 0x0100 0x1001)
+    ∷ wrongDrive EXCHANGE-wrong-generation-to-the-second (1 ∷ 2 ∷ 1 ∷ []) 2 smallElements (exchangeBlock 0x1000 0x1002 0x0100)
+    ∷ wrongDrive EXCHANGE-wrong-generation-back-to-the-source (1 ∷ 2 ∷ 1 ∷ []) 3 (elementsOf empty (loaded 1) empty empty (loaded 2) empty) (exchangeBlock 0x0100 0x1002 0x0100)
+    ∷ []
+
+-- "Bad lengths or entries are number 1."; "A table that already has an ill-fitting volume in a drive is not sound."
+unfoldable pub unsoundFit : Name → List ℕ → List ℕ → ℕ → List ℕ → Case
+unsoundFit name generations masks free elements =
+    let t = libraryOf generations masks (quietShowing free) elements in
+    record { name = name; on = t; call = asks (0x00 ∷ 0 ∷ 0 ∷ 0 ∷ 0 ∷ 0 ∷ []); gives = refuses 1 t [] }
+
+unfoldable pub fitCases : List Case
+fitCases =
+    -- "Import isn't affected."
+    record {
+      name = import-of-any-generation;
+      on = libraryOf (1 ∷ 1 ∷ 8 ∷ []) (0x01 ∷ []) quietHead smallElements;
+      call = Import 0x0010 3;
+      gives =
+          endsOn 0x00
+          (libraryOf (1 ∷ 1 ∷ 8 ∷ []) (0x01 ∷ []) (headOf 0 0 (awaits 0x28 0x01) (awaits 0x28 0x01) (awaits 0x28 0x01))
+          (elementsOf (element 3 0 0 0 1) empty (loaded 1) empty (loaded 2) empty));
+    }
+    ∷ unsoundFit ill-fitting-volume-in-the-drive (2 ∷ 1 ∷ 1 ∷ []) (0x01 ∷ []) 3 (elementsOf empty (loaded 1) empty empty (loaded 2) empty)
+    ∷ unsoundFit generation-0 (1 ∷ 0 ∷ 1 ∷ []) (0x01 ∷ []) 2 smallElements
+    ∷ unsoundFit generation-9 (1 ∷ 1 ∷ 9 ∷ []) (0x01 ∷ []) 2 smallElements
+    ∷ unsoundFit one-generation-too-few (1 ∷ 1 ∷ []) (0x01 ∷ []) 2 smallElements
+    ∷ unsoundFit one-mask-too-many (1 ∷ 1 ∷ 1 ∷ []) (0x01 ∷ 0x01 ∷ []) 2 smallElements
+    ∷ []
+
 -- "P1 to P12 are one table", with the rows above
 unfoldable pub cases : List Case
 cases =
     moves ++ exchanges ++ cuts ++ readAll ++ shipped ++ numbers ++ eventNumbers ++ stepCases ++ touchCases ++ holdCases ++ eventCases ++ modeCases ++ longCases
-    ++ shelfMoves ++ shelfExchanges ++ sourceCases ++ panelCases
+    ++ shelfMoves ++ shelfExchanges ++ sourceCases ++ panelCases ++ fitMoves ++ fitExchanges ++ fitCases
 
 -- ---- the test over all rows: the names of those whose outcome is another
 

@@ -35,6 +35,13 @@ pub data History : Tables → List Call → List Outcome → Tables → Type 0 w
   called : {t u : Tables} {c : Call} {o : Outcome} {cs : List Call} {os : List Outcome}
       → o ≡ serve t c → History (o .tables) cs os u → History t (c ∷ cs) (o ∷ os) u
 
+-- "with both tables as given and unchanged", as are the labels
+pub record AsGiven (t u : Tables) : Type 0 where
+  pub tags-are : u .rest .tags ≡ t .rest .tags
+  pub blank-is : u .rest .blank ≡ t .rest .blank
+  pub generations-are : u .rest .generations ≡ t .rest .generations
+  pub masks-are : u .rest .masks ≡ t .rest .masks
+
 -- ---- "the volumes present equal those loaded plus imports less exports, read from the history"
 
 -- 1 where the two are equal, else 0

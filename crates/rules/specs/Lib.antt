@@ -3,9 +3,10 @@ pub mod Bytes
 pub mod Roster
 pub mod Tables
 pub mod Ranges
+pub mod Order
+pub mod Fitting
 pub mod Sound
 pub mod Operation
-pub mod Order
 pub mod Moves
 pub mod Holds
 pub mod Sense

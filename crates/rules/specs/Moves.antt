@@ -7,7 +7,8 @@ use Rattle.rules.specs.Choice.{when, anyOf, allOf, differ}
 use Rattle.rules.specs.Bytes.{word}
 use Rattle.rules.specs.Tables.{Tables, Change, Fill, Recount}
 use Rattle.rules.specs.Roster.{roster, placeOf, kindOf, firstTransport, transport, storage}
-use Rattle.rules.specs.Order.{Verdict, WrongAddress, SourceEmpty, DestinationFull, good, refused, conflict, heldByOther, volumeOf, sourceOf}
+use Rattle.rules.specs.Order.{Verdict, WrongAddress, SourceEmpty, DestinationFull, IncompatibleMedium, good, refused, conflict, heldByOther, volumeOf, sourceOf}
+use Rattle.rules.specs.Fitting.{unfit}
 
 -- "Transport 0 means the lowest-addressed one"
 unfoldable pub transportUsed : Tables → ℕ → ℕ
@@ -33,7 +34,7 @@ shelfOf t a = when (eqb (kindOf (roster (t .head)) a) storage) a (sourceOf t a)
 unfoldable pub carry : Tables → ℕ → ℕ → Change
 carry t from to = Fill (placeOf (roster (t .head)) to) (volumeOf t from) (shelfOf t from) 0
 
--- steps 5 to 8 for MOVE: the transport used, the source, the destination. "Every move, exchange .. keeps it true": the panel's number is
+-- steps 5 to 8 for MOVE, and "The new refusal stands after step 8": the transport used, the source, the destination. "Every move, exchange .. keeps it true": the panel's number is
 -- that of the elements as the move leaves them.
 unfoldable pub moveOf : Tables → ℕ → ℕ → ℕ → ℕ → Verdict
 moveOf t h arm from to =
@@ -41,21 +42,23 @@ moveOf t h arm from to =
     (when (anyOf (heldByOther t h arm ∷ heldByOther t h from ∷ heldByOther t h to ∷ [])) (conflict h)
     (when (eqb (volumeOf t from) 0) (refused h SourceEmpty)
     (when (differ (volumeOf t to) 0) (refused h DestinationFull)
-    (good h (leave t from ∷ carry t from to ∷ Recount ∷ [])))))
+    (when (unfit t to (volumeOf t from)) (refused h IncompatibleMedium)
+    (good h (leave t from ∷ carry t from to ∷ Recount ∷ []))))))
 
 -- "MOVE: bytes 2-3 transport, 4-5 source, 6-7 destination"
 unfoldable pub move : Tables → ℕ → List ℕ → Verdict
 move t h block = moveOf t h (transportUsed t (word block 2)) (word block 4) (word block 6)
 
--- steps 5 to 8 for EXCHANGE: the transport used, the source, the first and the second destination. Both volumes and their sources are
--- read before a place is written; "the source, unless it is the second, is then a place left".
+-- the same for EXCHANGE: the transport used, the source, the first and the second destination; "either leg of an exchange that ends in a drive".
+-- Both volumes and their sources are read before a place is written; "the source, unless it is the second, is then a place left".
 unfoldable pub exchangeOf : Tables → ℕ → ℕ → ℕ → ℕ → ℕ → Verdict
 exchangeOf t h arm from first second =
     when (anyOf (noTransport t arm ∷ noPlace t from ∷ noPlace t first ∷ noPlace t second ∷ eqb first from ∷ [])) (refused h WrongAddress)
     (when (anyOf (heldByOther t h arm ∷ heldByOther t h from ∷ heldByOther t h first ∷ heldByOther t h second ∷ [])) (conflict h)
     (when (anyOf (eqb (volumeOf t from) 0 ∷ eqb (volumeOf t first) 0 ∷ [])) (refused h SourceEmpty)
     (when (allOf (differ (volumeOf t second) 0 ∷ differ second from ∷ [])) (refused h DestinationFull)
-    (good h (leave t from ∷ leave t first ∷ carry t first second ∷ carry t from first ∷ Recount ∷ [])))))
+    (when (anyOf (unfit t first (volumeOf t from) ∷ unfit t second (volumeOf t first) ∷ [])) (refused h IncompatibleMedium)
+    (good h (leave t from ∷ leave t first ∷ carry t first second ∷ carry t from first ∷ Recount ∷ []))))))
 
 -- "EXCHANGE: 4-5 source, 6-7 first destination, 8-9 second"
 unfoldable pub exchange : Tables → ℕ → List ℕ → Verdict

@@ -83,6 +83,7 @@ pub data Cause : Type 0 where
   WrongAddress : Cause
   SourceEmpty : Cause
   DestinationFull : Cause
+  IncompatibleMedium : Cause
 
 unfoldable pub refused : ℕ → Cause → Verdict
 refused h InvalidOperation = check h 5 0x20 0x00
@@ -92,6 +93,7 @@ refused h ListField = check h 5 0x26 0x00
 refused h WrongAddress = check h 5 0x21 0x01
 refused h SourceEmpty = check h 5 0x3B 0x0E
 refused h DestinationFull = check h 5 0x3B 0x0D
+refused h IncompatibleMedium = check h 5 0x30 0x12
 
 unfoldable pub conflict : ℕ → Verdict
 conflict h = Done RESERVATION-CONFLICT [] (Sense h 0 0 0 ∷ [])

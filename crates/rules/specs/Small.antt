@@ -3,7 +3,7 @@ use Prim.Native.Nat.{ℕ}
 use mathlib.Core.List.{List, [], _∷_, _++_}
 use lib.ListN.{replicate}
 use Rattle.rules.specs.Bytes.{three, high, low}
-use Rattle.rules.specs.Tables.{Tables, lent, labels}
+use Rattle.rules.specs.Tables.{Tables, lent, others}
 use Rattle.rules.specs.Order.{Outcome}
 use Rattle.rules.specs.Command.{Call, Command}
 
@@ -64,8 +64,19 @@ smallTags = replicate 36 0x41 ++ replicate 36 0x42 ++ replicate 36 0x43
 unfoldable pub smallBlank : List ℕ
 smallBlank = replicate 36 0x20
 
+-- "In the small library both volumes are of generation 1 and the drive takes it.": the third is of it too
+unfoldable pub smallGenerations : List ℕ
+smallGenerations = 1 ∷ 1 ∷ 1 ∷ []
+
+unfoldable pub smallMasks : List ℕ
+smallMasks = 0x01 ∷ []
+
+-- volumes of these generations, and a drive that takes those of a mask
+unfoldable pub libraryOf : List ℕ → List ℕ → List ℕ → List ℕ → Tables
+libraryOf generations masks head elements = lent head elements (others smallTags smallBlank generations masks)
+
 unfoldable pub library : List ℕ → List ℕ → Tables
-library head elements = lent head elements (labels smallTags smallBlank)
+library head elements = libraryOf smallGenerations smallMasks head elements
 
 -- "no source, holder, sense or attention"; so many shelves are empty
 unfoldable pub quietShowing : ℕ → List ℕ
@@ -116,6 +127,10 @@ unfoldable pub lentBuffer : ℕ → List ℕ
 lentBuffer n = replicate n 0xEE
 
 -- ---- outcomes
+
+-- status and tables of a call with house number 0 that returns nothing
+unfoldable pub endsOn : ℕ → Tables → Outcome
+endsOn status t = record { number = 0; status = status; count = 0; preventers = 0; lowest = 0; tables = t; buffer = [] }
 
 -- status, count, head, elements, buffer of a call with house number 0
 unfoldable pub ends : ℕ → ℕ → List ℕ → List ℕ → List ℕ → Outcome

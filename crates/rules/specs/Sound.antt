@@ -5,8 +5,10 @@ use mathlib.Core.Bool.{Bool, true, false}
 use lib.ListN.{length}
 use lib.Dec.{eqb, leb}
 use Rattle.rules.specs.Choice.{when, anyOf, allOf, differ, below}
-use Rattle.rules.specs.Tables.{Tables, mostElements, mostTransports, mostVolumes, behindLast, Rest, headSize, elementSize, tagSize, hosts, volumes, unit, key, asc, ascq, attention, attentionq, volume, source, holder, id, mark, zeroByte, panel, emptyShelves}
+use Rattle.rules.specs.Bytes.{byte}
+use Rattle.rules.specs.Tables.{Tables, mostElements, mostTransports, mostVolumes, mostGenerations, behindLast, Rest, headSize, elementSize, tagSize, hosts, volumes, unit, key, asc, ascq, attention, attentionq, volume, source, holder, id, mark, zeroByte, panel, emptyShelves}
 use Rattle.rules.specs.Roster.{Slot, Range, range, ranges, roster, kindAt, kindOf, transport, storage, port}
+use Rattle.rules.specs.Fitting.{suited}
 
 -- low to high, both ends included
 unfoldable pub within : ℕ → ℕ → ℕ → Bool
@@ -97,9 +99,13 @@ headSound head =
 unfoldable pub labelsSound : List ℕ → List ℕ → Bool
 labelsSound tags blank = allOf (leb (volumes tags) mostVolumes ∷ eqb (length tags) (tagSize * volumes tags) ∷ eqb (length blank) tagSize ∷ [])
 
--- the tables that no call writes
+-- "generation 1 to 8 for each volume": "Bad lengths or entries are number 1."
+unfoldable pub generationsSound : ℕ → List ℕ → Bool
+generationsSound top generations = allOf (eqb (length generations) top ∷ below top (λ i. within 1 mostGenerations (byte generations i)) ∷ [])
+
+-- the tables that no call writes, as far as they do not hang on the others
 unfoldable pub restSound : Rest → Bool
-restSound r = labelsSound (r .tags) (r .blank)
+restSound r = allOf (labelsSound (r .tags) (r .blank) ∷ generationsSound (volumes (r .tags)) (r .generations) ∷ [])
 
 unfoldable pub elementsSound : List Slot → ℕ → ℕ → List ℕ → Bool
 elementsSound ss u top elements =
@@ -115,6 +121,10 @@ elementsSound ss u top elements =
 unfoldable pub panelSound : Tables → Bool
 panelSound t = eqb (panel (t .head)) (emptyShelves (roster (t .head)) (t .elements))
 
+-- "for each drive a mask"; "A table that already has an ill-fitting volume in a drive is not sound."
+unfoldable pub drivesSound : Tables → Range → Bool
+drivesSound t drives = allOf (eqb (length (t .rest .masks)) (drives .count) ∷ below (drives .count) (λ k. suited t (drives .first + k)) ∷ [])
+
 unfoldable pub sound : Tables → Bool
 sound t =
     allOf
@@ -122,4 +132,5 @@ sound t =
     ∷ restSound (t .rest)
     ∷ elementsSound (roster (t .head)) (unit (t .head)) (volumes (t .rest .tags)) (t .elements)
     ∷ panelSound t
+    ∷ drivesSound t (range (t .head) 3)
     ∷ [])

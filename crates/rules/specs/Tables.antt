@@ -14,6 +14,10 @@ use Rattle.rules.specs.Roster.{Slot, roster, storage}
 pub record Rest : Type 0 where
   pub tags : List ℕ
   pub blank : List ℕ
+  -- "generation 1 to 8 for each volume"
+  pub generations : List ℕ
+  -- "for each drive a mask"
+  pub masks : List ℕ
 
 pub record Tables : Type 0 where
   pub head : List ℕ
@@ -24,19 +28,19 @@ abbrev pub lent : List ℕ → List ℕ → Rest → Tables
 lent head elements rest = record { head = head; elements = elements; rest = rest }
 
 -- all that is lent beside the head and the elements
-abbrev pub others : List ℕ → List ℕ → Rest
-others tags blank = record { tags = tags; blank = blank }
+abbrev pub others : List ℕ → List ℕ → List ℕ → List ℕ → Rest
+others tags blank generations masks = record { tags = tags; blank = blank; generations = generations; masks = masks }
 
 -- the same in a row, and back
 abbrev pub row : Rest → List (List ℕ)
-row r = r .tags ∷ r .blank ∷ []
+row r = r .tags ∷ r .blank ∷ r .generations ∷ r .masks ∷ []
 
 abbrev pub ofRow : List (List ℕ) → Rest
-ofRow ts = others (getD ts 0 []) (getD ts 1 [])
+ofRow ts = others (getD ts 0 []) (getD ts 1 []) (getD ts 2 []) (getD ts 3 [])
 
 -- the labels, and every other table empty
 abbrev pub labels : List ℕ → List ℕ → Rest
-labels tags blank = others tags blank
+labels tags blank = others tags blank [] []
 
 -- every one of them empty
 abbrev pub bare : Rest
@@ -76,6 +80,10 @@ mostTransports = 127
 -- "V at most 512"
 abbrev pub mostVolumes : ℕ
 mostVolumes = 512
+
+-- "generation 1 to 8"
+abbrev pub mostGenerations : ℕ
+mostGenerations = 8
 
 -- "each range within 1 to 65,535": the address behind the last
 abbrev pub behindLast : ℕ

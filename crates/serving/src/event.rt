@@ -11,12 +11,14 @@ pub fn import<'a>(
     elements: &mut [u8],
     tags: &'a [u8],
     blank: &'a [u8],
+    generations: &'a [u8],
+    masks: &'a [u8],
     address: u32,
     volume: u32,
 ) -> Reply
-    ensures { λ r. ⌜ ended r (lent (now (head .exit)) (now (elements .exit)) (others (now (tags .entry)) (now (blank .entry)))) [] ≡ import (lent (now (head .entry)) (now (elements .entry)) (others (now (tags .entry)) (now (blank .entry)))) address volume ⌝ }
+    ensures { λ r. ⌜ ended r (lent (now (head .exit)) (now (elements .exit)) (others (now (tags .entry)) (now (blank .entry)) (now (generations .entry)) (now (masks .entry)))) [] ≡ import (lent (now (head .entry)) (now (elements .entry)) (others (now (tags .entry)) (now (blank .entry)) (now (generations .entry)) (now (masks .entry)))) address volume ⌝ }
 {
-    let checked = sound::check(head, elements, tags, blank);
+    let checked = sound::check(head, elements, tags, blank, generations, masks);
     if !checked.sound {
         return order::numbered(1);
     }
@@ -29,11 +31,13 @@ pub fn export<'a>(
     elements: &mut [u8],
     tags: &'a [u8],
     blank: &'a [u8],
+    generations: &'a [u8],
+    masks: &'a [u8],
     address: u32,
 ) -> Reply
-    ensures { λ r. ⌜ ended r (lent (now (head .exit)) (now (elements .exit)) (others (now (tags .entry)) (now (blank .entry)))) [] ≡ export (lent (now (head .entry)) (now (elements .entry)) (others (now (tags .entry)) (now (blank .entry)))) address ⌝ }
+    ensures { λ r. ⌜ ended r (lent (now (head .exit)) (now (elements .exit)) (others (now (tags .entry)) (now (blank .entry)) (now (generations .entry)) (now (masks .entry)))) [] ≡ export (lent (now (head .entry)) (now (elements .entry)) (others (now (tags .entry)) (now (blank .entry)) (now (generations .entry)) (now (masks .entry)))) address ⌝ }
 {
-    let checked = sound::check(head, elements, tags, blank);
+    let checked = sound::check(head, elements, tags, blank, generations, masks);
     if !checked.sound {
         return order::numbered(1);
     }
@@ -41,10 +45,17 @@ pub fn export<'a>(
     events::export(runs, head, elements, address)
 }
 
-pub fn reset<'a>(head: &mut [u8], elements: &mut [u8], tags: &'a [u8], blank: &'a [u8]) -> Reply
-    ensures { λ r. ⌜ ended r (lent (now (head .exit)) (now (elements .exit)) (others (now (tags .entry)) (now (blank .entry)))) [] ≡ reset (lent (now (head .entry)) (now (elements .entry)) (others (now (tags .entry)) (now (blank .entry)))) ⌝ }
+pub fn reset<'a>(
+    head: &mut [u8],
+    elements: &mut [u8],
+    tags: &'a [u8],
+    blank: &'a [u8],
+    generations: &'a [u8],
+    masks: &'a [u8],
+) -> Reply
+    ensures { λ r. ⌜ ended r (lent (now (head .exit)) (now (elements .exit)) (others (now (tags .entry)) (now (blank .entry)) (now (generations .entry)) (now (masks .entry)))) [] ≡ reset (lent (now (head .entry)) (now (elements .entry)) (others (now (tags .entry)) (now (blank .entry)) (now (generations .entry)) (now (masks .entry)))) ⌝ }
 {
-    let checked = sound::check(head, elements, tags, blank);
+    let checked = sound::check(head, elements, tags, blank, generations, masks);
     if !checked.sound {
         return order::numbered(1);
     }

@@ -14,14 +14,16 @@ pub fn command<'a>(
     elements: &mut [u8],
     tags: &'a [u8],
     blank: &'a [u8],
+    generations: &'a [u8],
+    masks: &'a [u8],
     host: u32,
     block: &[u8],
     parameters: &[u8],
     answer: &mut [u8],
 ) -> Reply
-    ensures { λ r. ⌜ ended r (lent (now (head .exit)) (now (elements .exit)) (others (now (tags .entry)) (now (blank .entry)))) (now (answer .exit)) ≡ command (lent (now (head .entry)) (now (elements .entry)) (others (now (tags .entry)) (now (blank .entry)))) host (now (block .entry)) (now (parameters .entry)) (now (answer .entry)) ⌝ }
+    ensures { λ r. ⌜ ended r (lent (now (head .exit)) (now (elements .exit)) (others (now (tags .entry)) (now (blank .entry)) (now (generations .entry)) (now (masks .entry)))) (now (answer .exit)) ≡ command (lent (now (head .entry)) (now (elements .entry)) (others (now (tags .entry)) (now (blank .entry)) (now (generations .entry)) (now (masks .entry)))) host (now (block .entry)) (now (parameters .entry)) (now (answer .entry)) ⌝ }
 {
-    let checked = sound::check(head, elements, tags, blank);
+    let checked = sound::check(head, elements, tags, blank, generations, masks);
     let whole = checked.sound;
     let known = numbers::known_host(host);
     if !whole {
@@ -45,6 +47,8 @@ pub fn command<'a>(
         elements,
         tags,
         blank,
+        generations,
+        masks,
         host as u8,
         block,
         parameters,

@@ -4,4 +4,6 @@ pub mod Bits
 pub mod Once
 pub mod Holding
 pub mod Shelved
+pub mod Generations
+pub mod Suited
 pub mod Whole

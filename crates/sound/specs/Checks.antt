@@ -1,14 +1,16 @@
 -- What the parts of the check are handed, and what they tell of the part of a table that they look at. Assumes nothing.
-use Prim.Native.Nat.{ℕ, zero, suc, _+_, _*_, _/_, _%_, _^_, _<_, _≤_}
+use Prim.Native.Nat.{ℕ, zero, suc, _+_, _-_, _*_, _/_, _%_, _^_, _<_, _≤_}
 use mathlib.Core.Path.{_≡_}
 use mathlib.Core.List.{List, [], _∷_}
 use mathlib.Core.Bool.{Bool, true, not}
 use lib.ListN.{length, getD, set}
 use lib.Bits.{bitOr}
 use lib.Dec.{eqb, leb}
-use Rattle.rules.specs.Choice.{when, allOf, differ, below}
+use Rattle.rules.specs.Choice.{when, anyOf, allOf, differ, below}
+use Rattle.rules.specs.Bytes.{byte}
 use Rattle.rules.specs.Tables.{elementSize, volume, source, mark, holder, id, zeroByte, emptyShelves}
-use Rattle.rules.specs.Roster.{Range, Slot, kindAt, kindOf, transport, storage}
+use Rattle.rules.specs.Roster.{Range, Slot, kindAt, kindOf, placeOf, transport, storage}
+use Rattle.rules.specs.Fitting.{accepts}
 use Rattle.rules.specs.Sound.{markSound, stockSound, holdSound, once}
 use Rattle.tables.specs.Ranges.{lies}
 
@@ -94,3 +96,19 @@ pub record Run (top : ℕ) (elements : List ℕ) (first end : ℕ) (seen : List 
   pub in-order : first ≤ end
   pub there : elementSize * end ≤ length elements
   pub before : Marks elements first seen
+
+-- ---- the drives
+
+-- the k-th, whose record is at place p, is empty or takes what stands in it
+unfoldable pub suitedAt : List ℕ → List ℕ → List ℕ → ℕ → ℕ → Bool
+suitedAt elements generations masks p k =
+    anyOf (eqb (volume elements p) 0 ∷ accepts (byte masks k) (byte generations (volume elements p - 1)) ∷ [])
+
+-- the first n, whose records lie from place p on
+unfoldable pub suitedTo : List ℕ → List ℕ → List ℕ → ℕ → ℕ → Bool
+suitedTo elements generations masks p n = below n (λ k. suitedAt elements generations masks (p + k) k)
+
+-- those of a range of a roster: there is a mask for each, and each is suited
+unfoldable pub drivesBy : List Slot → Range → List ℕ → List ℕ → List ℕ → Bool
+drivesBy ss drives elements generations masks =
+    allOf (eqb (length masks) (drives .count) ∷ suitedTo elements generations masks (placeOf ss (drives .first)) (drives .count) ∷ [])

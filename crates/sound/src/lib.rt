@@ -1,14 +1,19 @@
 // "Sound tables": the check that every entry makes first, and the runs of the element table that it hands on.
+mod drives;
 pub mod element;
 mod marks;
 
 use tables::Range;
 ghost use mathlib.Core.Path.{_≡_};
-ghost use mathlib.Core.Bool.{true};
+ghost use mathlib.Core.Bool.{true, false};
+ghost use mathlib.Core.List.{List};
+ghost use Prim.Native.Nat.{ℕ};
 ghost use lib.ListN.{length};
-ghost use Rattle.rules.specs.Tables.{headSize, lent, others};
+ghost use Rattle.rules.specs.Choice.{when, below};
+ghost use Rattle.rules.specs.Bytes.{byte};
+ghost use Rattle.rules.specs.Tables.{headSize, mostGenerations, lent, others};
 ghost use Rattle.rules.specs.Roster.{ranges};
-ghost use Rattle.rules.specs.Sound.{sound, labelsSound, restSound};
+ghost use Rattle.rules.specs.Sound.{within, sound, labelsSound, generationsSound, restSound};
 ghost use Rattle.tables.specs.Ranges.{meant, Runs};
 
 // "V at most 512; all lengths exact"
@@ -28,11 +33,51 @@ fn labels_sound(tags: &[u8], blank: &[u8]) -> bool
     true
 }
 
-// The tables that no call writes.
-fn rest_sound(tags: &[u8], blank: &[u8]) -> bool
-    ensures { λ r. ⌜ r ≡ restSound (others (now (tags .entry)) (now (blank .entry))) ⌝ }
+// "generation 1 to 8", after others that were all so, or not.
+fn still_within(fine: bool, generation: u8) -> bool
+    ensures { λ r. ⌜ r ≡ when (within 1 mostGenerations generation) fine false ⌝ }
 {
-    labels_sound(tags, blank)
+    if generation < 1 {
+        return false;
+    }
+    if generation > layout::MOST_GENERATIONS {
+        return false;
+    }
+    fine
+}
+
+// Each is 1 to 8. This goes over up to 512 bytes at every call: the loop has no way out before its end, so that the compiler takes many bytes at a time.
+fn all_within(generations: &[u8]) -> bool
+    ensures { λ r. ⌜ r ≡ below (length (now (generations .entry))) (λ i. within 1 mostGenerations (byte (now (generations .entry)) i)) ⌝ }
+{
+    let n = generations.len();
+    let mut fine = true;
+    let mut i: usize = 0;
+    while i < n {
+        fine = still_within(fine, generations[i]);
+        i += 1;
+    }
+    fine
+}
+
+// "generation 1 to 8 for each volume": "Bad lengths or entries are number 1."
+fn generations_sound(top: usize, generations: &[u8]) -> bool
+    ensures { λ r. ⌜ r ≡ generationsSound top (now (generations .entry)) ⌝ }
+{
+    if generations.len() != top {
+        return false;
+    }
+    all_within(generations)
+}
+
+// The tables that no call writes, as far as they do not hang on the others.
+fn rest_sound(tags: &[u8], blank: &[u8], generations: &[u8]) -> bool
+    ensures { λ r. ⌜ ((masks : List ℕ) → r ≡ restSound (others (now (tags .entry)) (now (blank .entry)) (now (generations .entry)) masks)) ⌝ }
+{
+    if !labels_sound(tags, blank) {
+        return false;
+    }
+    generations_sound(tables::volumes(tags), generations)
 }
 
 // What the check tells, and the runs of sound tables, which callers look up by.
@@ -51,7 +96,7 @@ fn no_runs() -> [Range; 4] {
     [none, none, none, none]
 }
 
-// The head of these ranges, then what no call writes, then the elements by the runs of the ranges, with the number that the panel shows.
+// The head of these ranges, then what no call writes, then the elements by the runs of the ranges, with the number that the panel shows, then the drives.
 fn parts_sound(
     rs: [Range; 4],
     runs: [Range; 4],
@@ -59,31 +104,43 @@ fn parts_sound(
     elements: &[u8],
     tags: &[u8],
     blank: &[u8],
+    generations: &[u8],
+    masks: &[u8],
 ) -> bool
     requires { ⌜ length (now head) ≡ headSize ⌝ }
     requires { ⌜ meant rs ≡ ranges (now head) ⌝ }
     requires { ⌜ Runs runs (now head) ⌝ }
-    ensures { λ r. ⌜ r ≡ sound (lent (now (head .entry)) (now (elements .entry)) (others (now (tags .entry)) (now (blank .entry)))) ⌝ }
+    ensures { λ r. ⌜ r ≡ sound (lent (now (head .entry)) (now (elements .entry)) (others (now (tags .entry)) (now (blank .entry)) (now (generations .entry)) (now (masks .entry)))) ⌝ }
 {
     if !sound_head::sound(rs, runs, head) {
         return false;
     }
-    if !rest_sound(tags, blank) {
+    if !rest_sound(tags, blank, generations) {
         return false;
     }
-    element::elements_sound(
+    if !element::elements_sound(
         rs[1],
         runs,
         tables::head::unit(head),
         tables::volumes(tags),
         tables::head::panel(head),
         elements,
-    )
+    ) {
+        return false;
+    }
+    drives::drives_sound(rs[3], runs, elements, generations, masks)
 }
 
 // The check that every entry makes first: it reads any bytes of any lengths, each element once.
-pub fn check(head: &[u8], elements: &[u8], tags: &[u8], blank: &[u8]) -> Checked
-    ensures { λ r. ⌜ r .sound ≡ sound (lent (now (head .entry)) (now (elements .entry)) (others (now (tags .entry)) (now (blank .entry)))) ⌝ }
+pub fn check(
+    head: &[u8],
+    elements: &[u8],
+    tags: &[u8],
+    blank: &[u8],
+    generations: &[u8],
+    masks: &[u8],
+) -> Checked
+    ensures { λ r. ⌜ r .sound ≡ sound (lent (now (head .entry)) (now (elements .entry)) (others (now (tags .entry)) (now (blank .entry)) (now (generations .entry)) (now (masks .entry)))) ⌝ }
     ensures { λ r. ⌜ (r .sound ≡ true → Runs (r .runs) (now (head .entry))) ⌝ }
 {
     if head.len() != layout::HEAD_SIZE {
@@ -94,6 +151,6 @@ pub fn check(head: &[u8], elements: &[u8], tags: &[u8], blank: &[u8]) -> Checked
     }
     let rs = tables::ranges(head);
     let runs = tables::sorted(rs);
-    let sound = parts_sound(rs, runs, head, elements, tags, blank);
+    let sound = parts_sound(rs, runs, head, elements, tags, blank, generations, masks);
     Checked { sound, runs }
 }

@@ -22,7 +22,7 @@ module _ (head elements : List ℕ) (rest : Rest) (s : sound (lent head elements
   pub records : length elements ≡ elementSize * length (roster head)
   records = elements-length (lent head elements rest) (sound-true (lent head elements rest) s)
 
-  pub suited : (runs : List Range) → Runs runs head → Suited runs head elements (rest .tags) (rest .blank)
+  pub suited : (runs : List Range) → Runs runs head → Suited runs head elements rest
   suited runs is =
       let f = sound-true (lent head elements rest) s in
       record {

@@ -8,11 +8,11 @@ ghost use mathlib.Core.Path.{_≡_};
 ghost use mathlib.Core.List.{List};
 ghost use Prim.Native.Nat.{ℕ, _≤_};
 ghost use lib.ListN.{length};
-ghost use Rattle.rules.specs.Tables.{lent, headSize, hosts, attention, Rest};
+ghost use Rattle.rules.specs.Tables.{lent, others, headSize, hosts, attention, Rest};
 ghost use Rattle.rules.specs.Order.{Verdict, outcome, fits, afterAttention};
 ghost use Rattle.rules.specs.Form.{fault};
 ghost use Rattle.rules.specs.Command.{act, stepsOf};
-ghost use Rattle.order.specs.Ending.{ended, Lends};
+ghost use Rattle.order.specs.Ending.{ended};
 ghost use Rattle.operation.specs.Meaning.{meaning};
 ghost use Rattle.steps.specs.Suited.{Served};
 
@@ -38,14 +38,16 @@ fn command<'a>(
     elements: &mut [u8],
     tags: &'a [u8],
     blank: &'a [u8],
+    generations: &'a [u8],
+    masks: &'a [u8],
     host: u8,
     block: &[u8],
     parameters: &[u8],
     answer: &mut [u8],
 ) -> Reply
-    requires { ⌜ Served op runs (now head) (now elements) (now tags) (now blank) host (now block) ⌝ }
+    requires { ⌜ Served op runs (now head) (now elements) (others (now tags) (now blank) (now generations) (now masks)) host (now block) ⌝ }
     requires { ⌜ fault (meaning op) (now head) (now block) (now parameters) ≡ 0 ⌝ }
-    ensures { λ r. ⌜ ((rest : Rest) → Lends rest (now (tags .entry)) (now (blank .entry)) → ended r (lent (now (head .exit)) (now (elements .exit)) rest) (now (answer .exit)) ≡ outcome (lent (now (head .entry)) (now (elements .entry)) rest) (now (answer .entry)) (fits (now (answer .entry)) (act (meaning op) (lent (now (head .entry)) (now (elements .entry)) rest) host (now (block .entry)) (now (parameters .entry))))) ⌝ }
+    ensures { λ r. ⌜ ended r (lent (now (head .exit)) (now (elements .exit)) (others (now (tags .entry)) (now (blank .entry)) (now (generations .entry)) (now (masks .entry)))) (now (answer .exit)) ≡ outcome (lent (now (head .entry)) (now (elements .entry)) (others (now (tags .entry)) (now (blank .entry)) (now (generations .entry)) (now (masks .entry)))) (now (answer .entry)) (fits (now (answer .entry)) (act (meaning op) (lent (now (head .entry)) (now (elements .entry)) (others (now (tags .entry)) (now (blank .entry)) (now (generations .entry)) (now (masks .entry)))) host (now (block .entry)) (now (parameters .entry)))) ⌝ }
 {
     match op {
         Operation::TestUnitReady => order::good(head, host),
@@ -53,8 +55,24 @@ fn command<'a>(
         Operation::Reserve => holds::reserve(runs, head, elements, host, block, parameters),
         Operation::Release => holds::release(head, elements, host, block),
         Operation::PreventAllow => holds::prevent_allow(head, host, block),
-        Operation::MoveMedium => moves::move_medium(runs, head, elements, host, block),
-        Operation::ExchangeMedium => moves::exchange_medium(runs, head, elements, host, block),
+        Operation::MoveMedium => moves::move_medium(
+            runs,
+            head,
+            elements,
+            generations,
+            masks,
+            host,
+            block,
+        ),
+        Operation::ExchangeMedium => moves::exchange_medium(
+            runs,
+            head,
+            elements,
+            generations,
+            masks,
+            host,
+            block,
+        ),
         Operation::ReadElementStatus => listing::read_element_status(
             runs,
             head,
@@ -78,13 +96,15 @@ pub fn steps<'a>(
     elements: &mut [u8],
     tags: &'a [u8],
     blank: &'a [u8],
+    generations: &'a [u8],
+    masks: &'a [u8],
     host: u8,
     block: &[u8],
     parameters: &[u8],
     answer: &mut [u8],
 ) -> Reply
-    requires { ⌜ Served op runs (now head) (now elements) (now tags) (now blank) host (now block) ⌝ }
-    ensures { λ r. ⌜ ((rest : Rest) → Lends rest (now (tags .entry)) (now (blank .entry)) → ended r (lent (now (head .exit)) (now (elements .exit)) rest) (now (answer .exit)) ≡ outcome (lent (now (head .entry)) (now (elements .entry)) rest) (now (answer .entry)) (fits (now (answer .entry)) (stepsOf (meaning op) (lent (now (head .entry)) (now (elements .entry)) rest) host (now (block .entry)) (now (parameters .entry))))) ⌝ }
+    requires { ⌜ Served op runs (now head) (now elements) (others (now tags) (now blank) (now generations) (now masks)) host (now block) ⌝ }
+    ensures { λ r. ⌜ ended r (lent (now (head .exit)) (now (elements .exit)) (others (now (tags .entry)) (now (blank .entry)) (now (generations .entry)) (now (masks .entry)))) (now (answer .exit)) ≡ outcome (lent (now (head .entry)) (now (elements .entry)) (others (now (tags .entry)) (now (blank .entry)) (now (generations .entry)) (now (masks .entry)))) (now (answer .entry)) (fits (now (answer .entry)) (stepsOf (meaning op) (lent (now (head .entry)) (now (elements .entry)) (others (now (tags .entry)) (now (blank .entry)) (now (generations .entry)) (now (masks .entry)))) host (now (block .entry)) (now (parameters .entry)))) ⌝ }
 {
     match admission::judge(op, head, host, block, parameters) {
         Admission::Pending => report_attention(head, host),
@@ -97,6 +117,8 @@ pub fn steps<'a>(
             elements,
             tags,
             blank,
+            generations,
+            masks,
             host,
             block,
             parameters,

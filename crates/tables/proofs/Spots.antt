@@ -12,6 +12,7 @@ use borrow.Author.Tests.{leb-true, leb-false, ltb-true, ltb-false, eqb-false, eq
 use Rattle.rules.specs.Choice.{when, allOf}
 use Rattle.rules.specs.Roster.{Range, Slot, slots, spread, kindOf, placeOf}
 use Rattle.rules.proofs.Ladder.{all-first, all-rest}
+use Rattle.rules.proofs.Typed.{slots-in, slots-out}
 use Rattle.tables.specs.declared.Range.{Range as Code}
 use Rattle.tables.specs.declared.Spot.{Spot}
 use Rattle.tables.specs.Ranges.{meaning, meant, laid, lies}
@@ -28,28 +29,6 @@ pub lies-from : (r : Range) (a : ℕ) → lies r a ≡ true → (r .first ≤ a)
 unfolding lies
 lies-from r a e =
     (leb-true (r .first) a (all-first _ _ e), ltb-true a (r .first + r .count) (all-first _ _ (all-rest _ _ e)))
-
-slots-in : (n k f q a : ℕ) (rest : List Slot) → f ≤ a → a < f + n
-    → (kindOf (slots k f q n ++ rest) a ≡ k) × (placeOf (slots k f q n ++ rest) a ≡ a - f)
-unfolding slots kindOf placeOf when
-slots-in zero k f q a rest l h = absurd (let z : ⊥ = omega arith in z)
-slots-in (suc n) k f q a rest l h = go (λ m. slots-in n k (suc f) (suc q) a rest m (omega arith)) (eqb f a) refl
-  where
-    more : List Slot
-    more = slots k (suc f) (suc q) n ++ rest
-
-    go : (suc f ≤ a → (kindOf more a ≡ k) × (placeOf more a ≡ a - suc f)) → (b : Bool) → eqb f a ≡ b
-        → (when b k (kindOf more a) ≡ k) × (when b 0 (suc (placeOf more a)) ≡ a - f)
-    go ih true e = let d = eqb-true f a e in (refl, omega arith)
-    go ih false e = let d = eqb-false f a e in let i = ih (omega arith) in (i .0, omega arith)
-
-slots-out : (n k f q a : ℕ) (rest : List Slot) → ((i : ℕ) → i < n → f + i ≢ a)
-    → (kindOf (slots k f q n ++ rest) a ≡ kindOf rest a) × (placeOf (slots k f q n ++ rest) a ≡ n + placeOf rest a)
-unfolding slots kindOf placeOf when
-slots-out zero k f q a rest d = (refl, omega arith)
-slots-out (suc n) k f q a rest d =
-    let i = slots-out n k (suc f) (suc q) a rest (λ i h e. d (suc i) (omega arith) (omega arith)) in
-    rw (ne-eqb f a (λ e. d 0 (omega arith) (omega arith))) (i .0, omega arith)
 
 -- the elements of a range and those behind them: type and place follow from the range where the address lies in it, else from those behind
 spot-run : (r : Range) (q a : ℕ) (rest : List Slot)

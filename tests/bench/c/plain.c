@@ -1,12 +1,12 @@
 /* The rules of the library in plain C, written for speed: what the command core is timed beside. It answers exactly what the core answers.
- * One loop judges the elements and counts the empty shelves; an address is found from the ranges; RESERVE keeps a mark for each place; a move adds
+ * One loop judges the generations, one the elements, where it counts the empty shelves and holds each full drive to its mask; an address is found from the ranges; RESERVE keeps a mark for each place; a move adds
  * to the number of empty shelves and takes from it. A replay judges the tables and reads the ranges once, and makes no answer. */
 #include "plain.h"
 #include <stdbool.h>
 #include <string.h>
 
 enum { TRANSPORT = 1, STORAGE, PORT, DRIVE };
-enum { HOSTS = 8, MOST_ELEMENTS = 512, MOST_TRANSPORTS = 127, MOST_VOLUMES = 512, MOST_DESCRIPTORS = 32, DESCRIPTOR_BYTES = 6 };
+enum { HOSTS = 8, MOST_ELEMENTS = 512, MOST_TRANSPORTS = 127, MOST_VOLUMES = 512, GENERATIONS = 8, MOST_DESCRIPTORS = 32, DESCRIPTOR_BYTES = 6 };
 enum { UNIT = 16, MASK = 17, RECORDS = 18, RECORD_BYTES = 5, FREE = 58 };
 enum { VOLUME = 0, SOURCE = 2, HOLDER = 4, ID = 5, MARK = 6, ZERO = 7 };
 enum { NOWHERE = MOST_ELEMENTS };
@@ -18,7 +18,7 @@ typedef struct {
 
 typedef struct {
     uint8_t *head, *elements;
-    const uint8_t *tags, *blank;
+    const uint8_t *tags, *blank, *generations, *masks;
     unsigned count, volumes, filled;
     range ranges[4]; /* those with elements, in order of address */
 } library;
@@ -101,10 +101,22 @@ static bool hosts_sound(const library *l)
     return l->head[UNIT] <= HOSTS;
 }
 
+/* All are 1 to 8, so that one less leaves the low three bits alone. A sum of what is wrong, without a way out of the loop, goes many bytes at a time. */
+static bool generations_sound(const library *l)
+{
+    uint8_t wrong = 0;
+    for (unsigned volume = 0; volume < l->volumes; volume++)
+        wrong |= (uint8_t)(l->generations[volume] - 1);
+    return wrong < GENERATIONS;
+}
+
+/* The mask is that of a drive, the volume is one that there is. */
+static inline bool takes(const library *l, uint8_t mask, unsigned volume) { return mask >> (l->generations[volume - 1] - 1) & 1; }
+
 static bool elements_sound(const library *l)
 {
     uint8_t seen[MOST_VOLUMES + 1];
-    const uint8_t *e = l->elements, unit = l->head[UNIT];
+    const uint8_t *e = l->elements, *mask = l->masks, unit = l->head[UNIT];
     unsigned empty_shelves = 0;
     memset(seen, 0, l->volumes + 1);
     for (unsigned r = 0; r < l->filled; r++) {
@@ -128,18 +140,24 @@ static bool elements_sound(const library *l)
         }
         if (kind == STORAGE)
             empty_shelves = l->ranges[r].count - full;
+        if (kind == DRIVE)
+            for (const uint8_t *drive = e - SMC_ELEMENT_SIZE * l->ranges[r].count; drive < e; drive += SMC_ELEMENT_SIZE, mask++)
+                if (get16(drive + VOLUME) && !takes(l, *mask, get16(drive + VOLUME)))
+                    return false;
     }
     return empty_shelves == get16(l->head + FREE);
 }
 
-#define LENT head, head_len, elements, elements_len, tags, tags_len, blank, blank_len
+#define LENT head, head_len, elements, elements_len, tags, tags_len, blank, blank_len, generations, generations_len, masks, masks_len
 
 static inline bool read_tables(library *l, SMC_TABLES)
 {
-    *l = (library){.head = head, .elements = elements, .tags = tags, .blank = blank, .volumes = (unsigned)(tags_len / SMC_TAG_SIZE)};
+    *l = (library){.head = head, .elements = elements, .tags = tags, .blank = blank, .generations = generations, .masks = masks,
+                   .volumes = (unsigned)(tags_len / SMC_TAG_SIZE)};
     return head_len == SMC_HEAD_SIZE && blank_len == SMC_TAG_SIZE && tags_len <= MOST_VOLUMES * SMC_TAG_SIZE &&
-           tags_len % SMC_TAG_SIZE == 0 && read_ranges(l) && elements_len == (size_t)SMC_ELEMENT_SIZE * l->count && hosts_sound(l) &&
-           elements_sound(l);
+           tags_len % SMC_TAG_SIZE == 0 && generations_len == l->volumes && read_ranges(l) &&
+           elements_len == (size_t)SMC_ELEMENT_SIZE * l->count && masks_len == get16(head + 4 * (DRIVE - 1) + 2) && hosts_sound(l) &&
+           generations_sound(l) && elements_sound(l);
 }
 
 /* ---- how a call ends ---- */
@@ -164,6 +182,7 @@ static inline smc_reply ends(library *l, uint32_t host, uint8_t status, uint8_t 
 #define WRONG_ADDRESS CHECK(0x21, 0x01)
 #define SOURCE_EMPTY CHECK(0x3B, 0x0E)
 #define DESTINATION_FULL CHECK(0x3B, 0x0D)
+#define WRONG_CARTRIDGE CHECK(0x30, 0x12)
 
 /* ---- the commands ---- */
 
@@ -259,16 +278,18 @@ static inline uint8_t *transport(const library *l, unsigned address)
     return place == NOWHERE || kind != TRANSPORT ? NULL : l->elements + SMC_ELEMENT_SIZE * place;
 }
 
-/* An element that is no transport: its record, null for none, and whether it is a shelf. */
+/* An element that is no transport: its record, null for none, whether it is a shelf, and which generations it takes; shelves and slots take all. */
 typedef struct {
     uint8_t *e;
     bool shelf;
+    uint8_t mask;
 } spot;
 
 static inline spot spot_of(const library *l, unsigned address)
 {
     unsigned kind = TRANSPORT, place = find(l, address, &kind);
-    return (spot){kind == TRANSPORT ? NULL : l->elements + SMC_ELEMENT_SIZE * place, kind == STORAGE};
+    const uint8_t mask = kind == DRIVE ? l->masks[address - get16(l->head + 4 * (DRIVE - 1))] : 0xFF;
+    return (spot){kind == TRANSPORT ? NULL : l->elements + SMC_ELEMENT_SIZE * place, kind == STORAGE, mask};
 }
 
 static inline bool others(const uint8_t *e, const request *q) { return e[HOLDER] && e[HOLDER] != q->host; }
@@ -303,6 +324,8 @@ static smc_reply move(library *l, const request *q)
         return SOURCE_EMPTY;
     if (get16(d + VOLUME))
         return DESTINATION_FULL;
+    if (!takes(l, to.mask, get16(s + VOLUME)))
+        return WRONG_CARTRIDGE;
     fill(d, get16(s + VOLUME), shelf_of(from, source));
     fill(s, 0, 0);
     count(l, from, to);
@@ -324,6 +347,8 @@ static smc_reply exchange(library *l, const request *q)
         return SOURCE_EMPTY;
     if (g != s && get16(g + VOLUME))
         return DESTINATION_FULL;
+    if (!takes(l, by.mask, up) || !takes(l, to.mask, down))
+        return WRONG_CARTRIDGE;
     up_shelf = shelf_of(from, source);
     down_shelf = shelf_of(by, first);
     fill(s, 0, 0);

@@ -16,7 +16,7 @@ pub(crate) const FIRST_SHELF: u16 = 0x1000;
 const MOST_DESCRIPTORS: u16 = 32;
 
 /// The small library's addresses with as many shelves as make up the size. Every second shelf is full, and every
-/// second volume came from the shelf beside it.
+/// second volume came from the shelf beside it. The volumes are of all generations, and the drive takes them.
 pub fn library(elements: u16) -> TableBytes {
     let shelves = elements - 3;
     let ranges = [
@@ -46,6 +46,8 @@ pub fn library(elements: u16) -> TableBytes {
         head,
         elements: table,
         tags: (0..36 * usize::from(elements)).map(|at| at as u8).collect(),
+        generations: (0..elements).map(|at| (at % 8) as u8 + 1).collect(),
+        masks: vec![0xFF],
         ..Scene::small_library().tables
     }
 }

@@ -44,12 +44,13 @@ impl From<Replayed> for reference::Replayed {
     }
 }
 
-/// A pointer and a length for each of head, elements, tags and blank label, and what follows them.
+/// A pointer and a length for each of head, elements, tags, blank label, generations and masks, and what follows them.
 macro_rules! entry {
     ($($more:ty),*) => { entry!($($more),* => Reply) };
     ($($more:ty),* => $returned:ty) => {
         unsafe extern "C" fn(
-            *mut u8, usize, *mut u8, usize, *const u8, usize, *const u8, usize, $($more),*
+            *mut u8, usize, *mut u8, usize, *const u8, usize, *const u8, usize,
+            *const u8, usize, *const u8, usize, $($more),*
         ) -> $returned
     };
 }
@@ -84,6 +85,8 @@ macro_rules! declare_entries {
                 elements: *mut u8, elements_len: usize,
                 tags: *const u8, tags_len: usize,
                 blank: *const u8, blank_len: usize,
+                generations: *const u8, generations_len: usize,
+                masks: *const u8, masks_len: usize,
                 $(_: $more),*
             ) -> $returned;)*
         }
@@ -104,6 +107,8 @@ macro_rules! call_entry {
                 empty.write($tables.elements), $tables.elements.len(),
                 empty.read($tables.tags), $tables.tags.len(),
                 empty.read($tables.blank), $tables.blank.len(),
+                empty.read($tables.generations), $tables.generations.len(),
+                empty.read($tables.masks), $tables.masks.len(),
                 $($more),*
             )
         }

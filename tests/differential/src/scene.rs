@@ -7,6 +7,17 @@ use reference::TableBytes;
 pub const HEAD_LENGTH: usize = 60;
 pub const EMPTY_SHELVES: usize = 58;
 
+/// The highest generation.
+pub const MOST_GENERATION: u8 = 8;
+
+/// "a mask (bit g-1)"; none for what is no generation.
+pub fn bit(generation: u8) -> u8 {
+    match generation {
+        1..=MOST_GENERATION => 1 << (generation - 1),
+        _ => 0,
+    }
+}
+
 /// An element's address and kind; its place in the table is its place in [`Scene::places`].
 #[derive(Clone, Copy, Debug, PartialEq, Eq)]
 pub struct Place {
@@ -22,7 +33,7 @@ pub struct Scene {
 }
 
 impl Scene {
-    /// The small library of document 01, with labels for three volumes.
+    /// The small library of document 01, with labels for three volumes, all of generation 1; the drive takes that.
     pub fn small_library() -> Scene {
         let ranges = [
             [0x00, 0x01, 0, 1],
@@ -46,6 +57,8 @@ impl Scene {
             ),
             places,
         };
+        scene.tables.generations = vec![1; 3];
+        scene.tables.masks = vec![bit(1)];
         scene.set_volume(3, 1);
         scene.set_volume(5, 2);
         scene.show_empty_shelves(2);
@@ -146,6 +159,50 @@ impl Scene {
     pub fn host_record(&mut self, host: u8) -> &mut [u8] {
         let at = 18 + 5 * (usize::from(host) - 1);
         &mut self.tables.head[at..at + 5]
+    }
+
+    /// The generation of a volume; 0 where broken tables tell none.
+    pub fn generation(&self, volume: u16) -> u8 {
+        let at = usize::from(volume).checked_sub(1);
+        let found = at.and_then(|at| self.tables.generations.get(at));
+        found.copied().unwrap_or(0)
+    }
+
+    pub fn set_generation(&mut self, volume: u16, generation: u8) {
+        self.tables.generations[usize::from(volume) - 1] = generation;
+    }
+
+    /// The drives' places in the element table, in the order of the masks.
+    pub fn drives(&self) -> Vec<usize> {
+        self.places_where(|kind, _| kind == Kind::Drive)
+    }
+
+    /// The mask of the drive at this place of the element table.
+    pub fn mask(&mut self, place: usize) -> &mut u8 {
+        let before = self.places[..place].iter();
+        let drive = before.filter(|place| place.kind == Kind::Drive).count();
+        &mut self.tables.masks[drive]
+    }
+
+    /// As many labels as this; generations as many, those that come new are 1.
+    pub fn relabel(&mut self, tags: Vec<u8>) {
+        self.tables.tags = tags;
+        self.tables.generations.resize(self.volumes(), 1);
+    }
+
+    /// Every drive takes every generation.
+    pub fn take_all(&mut self) {
+        self.tables.masks.fill(0xFF);
+    }
+
+    /// Each full drive takes what stands in it, as far as the tables have a generation and a mask for that.
+    pub fn admit(&mut self) {
+        for (drive, place) in self.drives().into_iter().enumerate() {
+            let taken = bit(self.generation(self.volume(place)));
+            if let Some(mask) = self.tables.masks.get_mut(drive) {
+                *mask |= taken;
+            }
+        }
     }
 
     /// V.

@@ -1,5 +1,6 @@
 //! Which outcomes a run has reached, how often, and which it must reach to count.
 
+mod cartridges;
 mod mode;
 mod panel;
 mod replay;
@@ -16,6 +17,7 @@ use crate::compare::Made;
 use crate::generate::calls::COMMANDS;
 use crate::generate::logs::LineFault;
 
+pub use cartridges::{Earlier, Legs, Unfit};
 pub use mode::{ModeCut, ModeFault};
 pub use panel::{Change, Wrong};
 pub use replay::{line_outcomes, Given, Lines, Stop};
@@ -94,6 +96,8 @@ pub enum Slice {
     Elements,
     Tags,
     Blank,
+    Generations,
+    Masks,
     Block,
     Parameters,
     Answer,
@@ -143,6 +147,23 @@ pub enum Outcome {
     EmptyShelvesPast255(First, Change),
     /// House number 1: how the number of empty shelves is wrong.
     WrongEmptyShelves(Wrong),
+    /// GOOD: a volume of this generation came to a drive.
+    Loaded(u8),
+    /// 5/30/12: a volume of this generation did not.
+    Refused(u8),
+    NotTaken(First, Legs),
+    /// 5/30/12 by a drive that takes nothing.
+    TakesNothing,
+    /// 5/30/12, and another drive takes the volume.
+    AnotherWouldTake,
+    /// A drive would not have taken a volume, and the command ended before that was judged.
+    Untold(First, Earlier),
+    /// House number 0 of an import, and no drive takes the volume.
+    ImportedForNoDrive,
+    /// House number 1: how generations and masks are not sound.
+    Unfit(Unfit),
+    /// An applied line that ended in 5/30/12.
+    LineNotTaken(First),
     /// GOOD, with the last of 127 transports named.
     LastOfMostTransports(First),
     /// Why a replay stopped, and how many lines it had applied.
@@ -215,6 +236,15 @@ impl fmt::Display for Outcome {
                 format!("{first}: empty shelves {change:?}, in the high byte too")
             }
             Outcome::WrongEmptyShelves(wrong) => format!("not sound: empty shelves {wrong:?}"),
+            Outcome::Loaded(generation) => format!("drive takes generation {generation}"),
+            Outcome::Refused(generation) => format!("drive refuses generation {generation}"),
+            Outcome::NotTaken(first, legs) => format!("{first}: not taken, {legs:?}"),
+            Outcome::TakesNothing => "refused by a drive that takes nothing".into(),
+            Outcome::AnotherWouldTake => "refused, and another drive takes it".into(),
+            Outcome::Untold(first, earlier) => format!("{first}: {earlier:?} before 5/30/12"),
+            Outcome::ImportedForNoDrive => "Import of what no drive takes".into(),
+            Outcome::Unfit(unfit) => format!("not sound: {unfit:?}"),
+            Outcome::LineNotTaken(first) => format!("line, {first}: 5/30/12"),
             Outcome::LargestListing => "listing of 26,664 bytes".into(),
             Outcome::LastOfMostTransports(first) => {
                 format!("{first}: GOOD by the last of 127 transports")
@@ -286,7 +316,12 @@ fn outcomes(before: &TableBytes, call: &Call, made: &Made) -> Vec<Outcome> {
                 reached.extend(command_outcomes(before, *host, first, block, made));
             }
         }
-        Call::Import { .. } => reached.push(Outcome::EventNumber(Event::Import, number)),
+        Call::Import { volume, .. } => {
+            reached.push(Outcome::EventNumber(Event::Import, number));
+            if number == 0 {
+                reached.extend(cartridges::imported(before, *volume));
+            }
+        }
         Call::Export { .. } => reached.push(Outcome::EventNumber(Event::Export, number)),
         Call::Reset => reached.push(Outcome::EventNumber(Event::Reset, number)),
         Call::Replay {
@@ -301,6 +336,9 @@ fn outcomes(before: &TableBytes, call: &Call, made: &Made) -> Vec<Outcome> {
         reached.extend(broken.map(Outcome::Broken));
         if broken == Some(Clause::SourceAddress) {
             reached.extend(shelves::wrong_source(before));
+        }
+        if let Some(clause) = broken {
+            reached.extend(cartridges::unfit(before, clause));
         }
         if broken == Some(Clause::EmptyShelves) {
             reached.push(panel::wrong(before));
@@ -325,14 +363,28 @@ fn command_outcomes(
         return vec![Outcome::NumberOf(first, reply.number)];
     }
     let record = 18 + 5 * (host as usize - 1);
+    let untold = |earlier: Earlier| {
+        let untold = cartridges::untold(before, first, block, earlier);
+        Vec::from_iter(untold)
+    };
     match (reply.status, first) {
-        (0x18, _) => vec![Outcome::Conflict(first)],
+        (0x18, _) => {
+            let mut reached = untold(Earlier::Conflict);
+            reached.push(Outcome::Conflict(first));
+            reached
+        }
         (0x02, _) => {
             let sense = &made.head()[record..record + 3];
             let mut reached = vec![Outcome::Check(first, [sense[0], sense[1], sense[2]])];
             if first == First::Known(0x1A) && *sense == [5, 0x24, 0x00] {
                 reached.extend(mode::fault(before, block));
             }
+            reached.extend(match *sense {
+                [5, 0x30, 0x12] => cartridges::not_taken(before, first, block),
+                [5, 0x3B, 0x0E] => untold(Earlier::Empty),
+                [5, 0x3B, 0x0D] => untold(Earlier::Full),
+                _ => Vec::new(),
+            });
             reached
         }
         (_, First::Known(0x03)) => {
@@ -361,6 +413,7 @@ fn command_outcomes(
             });
             reached.extend(panel::second(before, first, block));
             reached.extend(panel::changes(before, first, made));
+            reached.extend(cartridges::loaded(before, first, block));
             if names_last_of_most_transports(before, block) {
                 reached.push(Outcome::LastOfMostTransports(first));
             }
@@ -386,6 +439,8 @@ fn long_slices(before: &TableBytes, call: &Call, made: &Made) -> Vec<Outcome> {
         (Slice::Elements, before.elements.len()),
         (Slice::Tags, before.tags.len()),
         (Slice::Blank, before.blank.len()),
+        (Slice::Generations, before.generations.len()),
+        (Slice::Masks, before.masks.len()),
         (Slice::Block, lent.block.len()),
         (Slice::Parameters, lent.parameters.len()),
         (Slice::Log, lent.log.len()),
@@ -482,6 +537,7 @@ pub fn required() -> Vec<Outcome> {
     required.extend(mode::required());
     required.extend(shelves::required());
     required.extend(panel::required());
+    required.extend(cartridges::required());
     required.extend(replay::required());
     required.extend((1..=8).map(Outcome::Preventers));
     required.extend((1..=8).map(Outcome::Lowest));
@@ -495,6 +551,8 @@ fn required_lengths() -> Vec<Outcome> {
     let mut required = vec![
         Outcome::Long(Slice::Elements, Above::TwoBytes, 1),
         Outcome::Long(Slice::Tags, Above::TwoBytes, 1),
+        Outcome::Long(Slice::Generations, Above::TwoBytes, 1),
+        Outcome::Long(Slice::Masks, Above::TwoBytes, 1),
         Outcome::Long(Slice::Parameters, Above::TwoBytes, 0),
         Outcome::Long(Slice::Parameters, Above::TwoBytes, 4),
         Outcome::Long(Slice::Answer, Above::TwoBytes, 0),
@@ -537,7 +595,12 @@ fn required_statuses(first: u8) -> Vec<Outcome> {
     let known = First::Known(first);
     let senses: &[[u8; 3]] = match first {
         0x16 => &[[5, 0x1A, 0x00], [5, 0x26, 0x00], [5, 0x21, 0x01]],
-        0xA5 | 0xA6 => &[[5, 0x21, 0x01], [5, 0x3B, 0x0E], [5, 0x3B, 0x0D]],
+        0xA5 | 0xA6 => &[
+            [5, 0x21, 0x01],
+            [5, 0x3B, 0x0E],
+            [5, 0x3B, 0x0D],
+            [5, 0x30, 0x12],
+        ],
         _ => &[],
     };
     let check = |sense: &[u8; 3]| Outcome::Check(known, *sense);

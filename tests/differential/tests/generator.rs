@@ -4,7 +4,7 @@ use std::collections::BTreeSet;
 
 use differential::generate::{faults, sound};
 use differential::random::Random;
-use differential::scene::Scene;
+use differential::scene::{bit, Scene, MOST_GENERATION};
 use reference::library::Kind;
 use reference::{check, Clause};
 
@@ -42,6 +42,34 @@ fn generated_tables_reach_the_edges_of_soundness() {
     assert!(some(
         &|scene| scene.absent_volume().is_none() && scene.volumes() > 5
     ));
+}
+
+/// Each generation, each mask of one bit, none and all; drives that are full and take that alone, or more, or not all.
+#[test]
+fn generated_cartridges_are_of_each_generation_and_drives_take_what_they_hold() {
+    let mut generations: BTreeSet<u8> = BTreeSet::new();
+    let mut masks: BTreeSet<u8> = BTreeSet::new();
+    let mut full: BTreeSet<u8> = BTreeSet::new();
+    for mut scene in scenes(4_000) {
+        generations.extend(&scene.tables.generations);
+        masks.extend(&scene.tables.masks);
+        for drive in scene.drives() {
+            let held = bit(scene.generation(scene.volume(drive)));
+            let mask = *scene.mask(drive);
+            assert_eq!(mask & held, held, "{scene:?}");
+            if held != 0 {
+                full.insert(mask);
+            }
+        }
+    }
+    assert_eq!(generations, (1..=MOST_GENERATION).collect());
+    let one_bit = (1..=MOST_GENERATION).map(bit);
+    let wanted: BTreeSet<u8> = one_bit.clone().chain([0x00, 0xFF]).collect();
+    assert!(masks.is_superset(&wanted), "{masks:?}");
+    assert!(
+        full.is_superset(&one_bit.chain([0xFF]).collect()),
+        "{full:?}"
+    );
 }
 
 /// The kinds of the places with a source, and of those that are full and have none; sources that are full shelves and empty ones.

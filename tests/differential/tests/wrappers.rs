@@ -19,6 +19,10 @@ enum Mistake {
     ElementsCutToTwoBytes,
     TagsCutToTwoBytes,
     BlankCutToTwoBytes,
+    GenerationsCutToOneByte,
+    GenerationsCutToTwoBytes,
+    MasksCutToOneByte,
+    MasksCutToTwoBytes,
     LargestListingSpoiled,
     LastTransportRefused,
     LogCutToOneByte,
@@ -29,7 +33,7 @@ enum Mistake {
     PlaceCutToTwoBytes,
 }
 
-const MISTAKES: [Mistake; 17] = [
+const MISTAKES: [Mistake; 21] = [
     Mistake::BlockCutToOneByte,
     Mistake::BlockCutToTwoBytes,
     Mistake::ParametersCutToTwoBytes,
@@ -39,6 +43,10 @@ const MISTAKES: [Mistake; 17] = [
     Mistake::ElementsCutToTwoBytes,
     Mistake::TagsCutToTwoBytes,
     Mistake::BlankCutToTwoBytes,
+    Mistake::GenerationsCutToOneByte,
+    Mistake::GenerationsCutToTwoBytes,
+    Mistake::MasksCutToOneByte,
+    Mistake::MasksCutToTwoBytes,
     Mistake::LargestListingSpoiled,
     Mistake::LastTransportRefused,
     Mistake::LogCutToOneByte,
@@ -71,6 +79,12 @@ impl Wrapper {
             Mistake::ElementsCutToTwoBytes => cut_mut(&mut tables.elements, 65_536),
             Mistake::TagsCutToTwoBytes => tables.tags = cut(tables.tags, 65_536),
             Mistake::BlankCutToTwoBytes => tables.blank = cut(tables.blank, 65_536),
+            Mistake::GenerationsCutToOneByte => tables.generations = cut(tables.generations, 256),
+            Mistake::GenerationsCutToTwoBytes => {
+                tables.generations = cut(tables.generations, 65_536)
+            }
+            Mistake::MasksCutToOneByte => tables.masks = cut(tables.masks, 256),
+            Mistake::MasksCutToTwoBytes => tables.masks = cut(tables.masks, 65_536),
             _ => {}
         }
         tables

@@ -28,7 +28,7 @@ extern "C" {
 }
 
 /// The clauses in the order of `smc_clause`, from 1 on.
-pub const CLAUSES: [Clause; 26] = [
+pub const CLAUSES: [Clause; 30] = [
     Clause::HeadLength,
     Clause::ElementCount,
     Clause::TransportCount,
@@ -55,6 +55,10 @@ pub const CLAUSES: [Clause; 26] = [
     Clause::ZeroByte,
     Clause::VolumeTwice,
     Clause::EmptyShelves,
+    Clause::GenerationsLength,
+    Clause::GenerationNumber,
+    Clause::MasksLength,
+    Clause::DriveTakes,
 ];
 
 impl Fault {

@@ -253,6 +253,62 @@ fn empty_shelves() {
 }
 
 #[test]
+fn cartridges() {
+    let against = |clause: u32, value: u64, other: u64| Fault {
+        other,
+        ..fault(clause, value)
+    };
+    expect(
+        |s| s.tables.generations.push(1),
+        against(27, 4, 3),
+        "clause 27, there is a generation for each tag: length 4 and not 3",
+    );
+    expect(
+        |s| s.tables.generations.clear(),
+        against(27, 0, 3),
+        "clause 27, there is a generation for each tag: length 0 and not 3",
+    );
+    for wrong in [0, 9, 255] {
+        expect(
+            |s| s.set_generation(3, wrong),
+            against(28, wrong.into(), 3),
+            &format!("clause 28, a generation is 1 to 8: generation {wrong} of volume 3"),
+        );
+    }
+    expect(
+        |s| s.tables.masks.push(0),
+        against(29, 2, 1),
+        "clause 29, there is a mask for each drive: length 2 and not 1",
+    );
+    expect(
+        |s| s.tables.masks.clear(),
+        against(29, 0, 1),
+        "clause 29, there is a mask for each drive: length 0 and not 1",
+    );
+    let unfit = |generation: u8, mask: u8| {
+        move |s: &mut Scene| {
+            s.set_volume(2, 3);
+            s.set_generation(3, generation);
+            s.tables.masks[0] = mask;
+        }
+    };
+    for (generation, mask) in [(1, 0xFE), (2, 0x01), (8, 0x7F), (8, 0x00)] {
+        let expected = Fault {
+            other: mask.into(),
+            ..of_element(30, 2, generation.into())
+        };
+        expect(unfit(generation, mask), expected, &format!("clause 30, a full drive takes its volume's generation: element 0100h (place 2): generation {generation}, and the mask is {mask:02X}h"));
+    }
+    for (generation, mask) in [(1, 0x01), (2, 0x02), (8, 0x80), (5, 0xFF)] {
+        expect(
+            unfit(generation, mask),
+            Fault::default(),
+            "the tables are sound",
+        );
+    }
+}
+
+#[test]
 fn the_text_is_cut_to_the_buffer() {
     let fault = broken(|s| s.hold_unit(9));
     let whole = fault.text();
@@ -272,6 +328,10 @@ fn a_number_that_is_no_clause_has_a_text_too() {
     assert_eq!(
         clause_text(26),
         "the head's last two bytes are the number of empty storage elements"
+    );
+    assert_eq!(
+        clause_text(30),
+        "a full drive takes its volume's generation"
     );
     for clause in [CLAUSES.len() as u32 + 1, 1_000, u32::MAX] {
         assert_eq!(clause_text(clause), "no clause has this number");

@@ -1,11 +1,12 @@
 //! What is common to the commands: house numbers 2 to 5 and the steps up to the fourth.
 
 use crate::bytes::{three, two};
+use crate::cartridges::Cartridges;
 use crate::interface::Request;
 use crate::library::{HostNumber, Kind, Labels, Library, Sense};
 use crate::refusal::Refusal;
 use crate::rules::{Mutation, Rules};
-use crate::{element_status, mode_sense, moves, reservations, sense};
+use crate::{element_status, mode_sense, moves, reservations, sense, Lent};
 
 #[derive(Clone, Copy, Debug, PartialEq, Eq)]
 pub(crate) enum Command {
@@ -60,6 +61,7 @@ pub(crate) struct Call<'a> {
     pub(crate) block: &'a [u8],
     pub(crate) parameters: &'a [u8],
     pub(crate) labels: Labels<'a>,
+    pub(crate) cartridges: Cartridges<'a>,
     pub(crate) rules: Rules,
 }
 
@@ -103,11 +105,12 @@ pub(crate) const LIST_RESERVED: Unsuccessful = illegal(0x26, 0x00);
 pub(crate) const WRONG_ADDRESS: Unsuccessful = illegal(0x21, 0x01);
 pub(crate) const SOURCE_EMPTY: Unsuccessful = illegal(0x3B, 0x0E);
 pub(crate) const DESTINATION_FULL: Unsuccessful = illegal(0x3B, 0x0D);
+pub(crate) const WRONG_CARTRIDGE: Unsuccessful = illegal(0x30, 0x12);
 
 /// Numbers 2, 3 and 4.
 pub(crate) fn accept<'a>(
     request: &Request<'a>,
-    labels: Labels<'a>,
+    lent: Lent<'a>,
     rules: Rules,
 ) -> Result<Call<'a>, Refusal> {
     let host = if rules.broken_by(Mutation::HostCutToOneByte) {
@@ -119,7 +122,8 @@ pub(crate) fn accept<'a>(
         host: HostNumber::new(host).ok_or(Refusal::NoSuchHost)?,
         block: request.block,
         parameters: request.parameters,
-        labels,
+        labels: lent.labels,
+        cartridges: lent.cartridges,
         rules,
     };
     accept_block_length(&call)?;

@@ -3,10 +3,11 @@
 use crate::library::{Attention, Element, Host, HostNumber, Kind, Labels, Library};
 use crate::refusal::Refusal;
 use crate::rules::{Mutation, Rules};
+use crate::Lent;
 
 pub(crate) fn import(
     library: &mut Library,
-    labels: Labels,
+    lent: Lent,
     (address, volume): (u32, u32),
     rules: Rules,
 ) -> Result<(), Refusal> {
@@ -19,7 +20,12 @@ pub(crate) fn import(
     if library.elements[&address].is_full() {
         return Err(Refusal::ElementFullOrEmpty);
     }
-    let volume = new_volume(library, labels, volume, rules)?;
+    let volume = new_volume(library, lent.labels, volume, rules)?;
+    // "Import isn't affected."
+    let judged = rules.broken_by(Mutation::ImportNeedsADrive);
+    if judged && !lent.cartridges.has_drive_for(volume, rules) {
+        return Err(Refusal::VolumeNumber);
+    }
     change(library, address, |element| {
         element.volume = Some(volume);
         element.source = None;

@@ -27,20 +27,24 @@ pub struct Tables<'a> {
     pub elements: &'a mut [u8],
     pub tags: &'a [u8],
     pub blank: &'a [u8],
+    pub generations: &'a [u8],
+    pub masks: &'a [u8],
 }
 
 /// The tables by name, in the order in which they are lent.
-pub const TABLES: [&str; 4] = ["head", "elements", "tags", "blank"];
+pub const TABLES: [&str; 6] = ["head", "elements", "tags", "blank", "generations", "masks"];
 
 impl<'a> Tables<'a> {
     /// A slice for each of [`TABLES`].
     pub fn of(slices: [&'a mut [u8]; TABLES.len()]) -> Tables<'a> {
-        let [head, elements, tags, blank] = slices;
+        let [head, elements, tags, blank, generations, masks] = slices;
         Tables {
             head,
             elements,
             tags,
             blank,
+            generations,
+            masks,
         }
     }
 
@@ -51,6 +55,8 @@ impl<'a> Tables<'a> {
             elements: self.elements,
             tags: self.tags,
             blank: self.blank,
+            generations: self.generations,
+            masks: self.masks,
         }
     }
 }
@@ -62,6 +68,8 @@ pub struct TableBytes {
     pub elements: Vec<u8>,
     pub tags: Vec<u8>,
     pub blank: Vec<u8>,
+    pub generations: Vec<u8>,
+    pub masks: Vec<u8>,
 }
 
 impl TableBytes {
@@ -72,6 +80,7 @@ impl TableBytes {
             elements,
             tags,
             blank,
+            ..TableBytes::default()
         }
     }
 
@@ -81,6 +90,8 @@ impl TableBytes {
             elements: &mut self.elements,
             tags: &self.tags,
             blank: &self.blank,
+            generations: &self.generations,
+            masks: &self.masks,
         }
     }
 
@@ -91,6 +102,8 @@ impl TableBytes {
             &mut self.elements,
             &mut self.tags,
             &mut self.blank,
+            &mut self.generations,
+            &mut self.masks,
         ]
     }
 }

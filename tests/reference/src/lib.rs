@@ -1,10 +1,11 @@
-//! The rules of document 01, with requests One to Five of document 02, over plain records.
+//! The rules of document 01, with requests One to Six of document 02, over plain records.
 //!
 //! The lent bytes are read into a [`library::Library`], the rules work on that, and the result is written
 //! back. It is meant to be read beside these documents and to be compared with the command core; it is not
 //! meant to be fast.
 
 mod bytes;
+mod cartridges;
 mod command;
 mod element_status;
 mod events;
@@ -26,6 +27,7 @@ pub use refusal::Refusal;
 pub use rules::{Mutation, Rules};
 pub use soundness::{check, fails_alone, Clause};
 
+use cartridges::Cartridges;
 use command::{Outcome, Unsuccessful};
 use library::{Labels, Library};
 
@@ -43,8 +45,7 @@ impl Reference {
 
     fn try_command(&self, tables: &mut Tables, request: Request) -> Result<Reply, Refusal> {
         let mut library = self.read(tables)?;
-        let labels = labels(tables);
-        let call = command::accept(&request, labels, self.rules)?;
+        let call = command::accept(&request, lent(tables), self.rules)?;
         let before = library.clone();
         let outcome = command::execute(&mut library, &call);
         let room = command::accept_answer_buffer(&call, &outcome, request.answer.len());
@@ -61,11 +62,11 @@ impl Reference {
     fn event(
         &self,
         mut tables: Tables,
-        happens: impl FnOnce(&mut Library, Labels) -> Result<(), Refusal>,
+        happens: impl FnOnce(&mut Library, Lent) -> Result<(), Refusal>,
     ) -> Reply {
         let result = self.read(&tables).and_then(|mut library| {
             let before = library.clone();
-            happens(&mut library, labels(&tables))?;
+            happens(&mut library, lent(&tables))?;
             let shown = panel::shown(&before, &library, None, self.rules);
             records::write(&library, shown, &mut tables);
             Ok(Reply::default())
@@ -74,10 +75,23 @@ impl Reference {
     }
 }
 
-fn labels<'a>(tables: &Tables<'a>) -> Labels<'a> {
-    Labels {
-        tags: tables.tags,
-        blank: tables.blank,
+/// What the tables that are only read say of volumes and drives.
+#[derive(Clone, Copy, Debug)]
+struct Lent<'a> {
+    labels: Labels<'a>,
+    cartridges: Cartridges<'a>,
+}
+
+fn lent<'a>(tables: &Tables<'a>) -> Lent<'a> {
+    Lent {
+        labels: Labels {
+            tags: tables.tags,
+            blank: tables.blank,
+        },
+        cartridges: Cartridges {
+            generations: tables.generations,
+            masks: tables.masks,
+        },
     }
 }
 
@@ -106,8 +120,8 @@ impl Implementation for Reference {
     }
 
     fn import(&self, tables: Tables, address: u32, volume: u32) -> Reply {
-        self.event(tables, |library, labels| {
-            events::import(library, labels, (address, volume), self.rules)
+        self.event(tables, |library, lent| {
+            events::import(library, lent, (address, volume), self.rules)
         })
     }
 

@@ -1,7 +1,9 @@
 //! MOVE MEDIUM and EXCHANGE MEDIUM.
 
 use crate::bytes::two;
-use crate::command::{Call, Outcome, Unsuccessful, DESTINATION_FULL, SOURCE_EMPTY, WRONG_ADDRESS};
+use crate::command::{
+    Call, Outcome, Unsuccessful, DESTINATION_FULL, SOURCE_EMPTY, WRONG_ADDRESS, WRONG_CARTRIDGE,
+};
 use crate::library::{Carried, Element, Kind, Library};
 use crate::rules::Mutation;
 
@@ -10,10 +12,10 @@ pub(crate) fn move_medium(library: &mut Library, call: &Call) -> Outcome {
     let source = place_named(library, call, 4)?;
     let destination = place_named(library, call, 6)?;
     let is_full = |address: u16| library.elements[&address].is_full();
-    let occupancy = || match (is_full(source), is_full(destination)) {
-        (false, _) => Err(SOURCE_EMPTY),
-        (true, true) => Err(DESTINATION_FULL),
-        (true, false) => Ok(()),
+    let occupancy = || Occupancy {
+        missing: !is_full(source),
+        occupied: is_full(destination),
+        wrong_cartridge: !may_go(library, call, source, destination),
     };
     judge_touched(library, call, &[transport, source, destination], occupancy)?;
 
@@ -37,10 +39,10 @@ pub(crate) fn exchange_medium(library: &mut Library, call: &Call) -> Outcome {
     // "The second must be empty or equal to the source."
     let back_to_source = second == source && !call.broken_by(Mutation::SourceAsSecondIsFull);
     let is_full = |address: u16| library.elements[&address].is_full();
-    let occupancy = || match (is_full(source) && is_full(first), is_full(second)) {
-        (false, _) => Err(SOURCE_EMPTY),
-        (true, true) if !back_to_source => Err(DESTINATION_FULL),
-        (true, _) => Ok(()),
+    let occupancy = || Occupancy {
+        missing: !is_full(source) || !is_full(first),
+        occupied: is_full(second) && !back_to_source,
+        wrong_cartridge: !legs_may_go(library, call, [source, first, second]),
     };
     let touched = [transport, source, first, second];
     judge_touched(library, call, &touched, occupancy)?;
@@ -80,15 +82,64 @@ fn place_named(library: &Library, call: &Call, at: usize) -> Result<u16, Unsucce
     }
 }
 
-/// Step 6, then steps 7 and 8. The transport stands first in `touched`.
+/// What steps 7 and 8, and the one behind them, look for.
+struct Occupancy {
+    missing: bool,
+    occupied: bool,
+    wrong_cartridge: bool,
+}
+
+impl Occupancy {
+    /// "The new refusal stands after step 8".
+    fn judge(&self, call: &Call) -> Result<(), Unsuccessful> {
+        let empty = (self.missing, SOURCE_EMPTY);
+        let full = (self.occupied, DESTINATION_FULL);
+        let unfit = (self.wrong_cartridge, WRONG_CARTRIDGE);
+        let order = match call.rules.mutation {
+            Some(Mutation::CartridgeBeforeFull) => [empty, unfit, full],
+            Some(Mutation::CartridgeBeforeEmpty) => [unfit, empty, full],
+            _ => [empty, full, unfit],
+        };
+        let first = order.into_iter().find(|(applies, _)| *applies);
+        first.map_or(Ok(()), |(_, refusal)| Err(refusal))
+    }
+}
+
+/// Whether what stands at one address may go to the other; nothing may go anywhere.
+fn may_go(library: &Library, call: &Call, from: u16, to: u16) -> bool {
+    let volume = library.elements[&from].volume;
+    volume.is_none_or(|volume| call.cartridges.may_go(library, volume, to, call.rules))
+}
+
+/// "for a move or either leg of an exchange that ends in a drive"
+fn legs_may_go(library: &Library, call: &Call, [source, first, second]: [u16; 3]) -> bool {
+    let (up, down) = match call.broken_by(Mutation::LegsJudgedByTheOtherVolume) {
+        true => (first, source),
+        false => (source, first),
+    };
+    let second_judged = match call.rules.mutation {
+        Some(Mutation::FirstLegAloneJudged) => false,
+        Some(Mutation::SwapBackUnjudged) => second != source,
+        Some(Mutation::SwapBackAloneJudged) => second == source,
+        _ => true,
+    };
+    let first_judged = !call.broken_by(Mutation::SecondLegAloneJudged);
+    let first_fits = !first_judged || may_go(library, call, up, first);
+    first_fits && (!second_judged || may_go(library, call, down, second))
+}
+
+/// Step 6, then steps 7 and 8, and the cartridges. The transport stands first in `touched`.
 fn judge_touched(
     library: &Library,
     call: &Call,
     touched: &[u16],
-    occupancy: impl Fn() -> Result<(), Unsuccessful>,
+    occupancy: impl Fn() -> Occupancy,
 ) -> Result<(), Unsuccessful> {
     if call.broken_by(Mutation::OccupancyBeforeHolders) {
-        occupancy()?;
+        occupancy().judge(call)?;
+    }
+    if call.broken_by(Mutation::CartridgeBeforeHolders) && occupancy().wrong_cartridge {
+        return Err(WRONG_CARTRIDGE);
     }
     let skips_transport =
         call.broken_by(Mutation::HolderOfTransportZeroIgnored) && two(call.block, 2) == 0;
@@ -101,7 +152,7 @@ fn judge_touched(
     if conflict || prevented {
         return Err(Unsuccessful::ReservationConflict);
     }
-    occupancy()
+    occupancy().judge(call)
 }
 
 fn place(library: &mut Library, address: u16) -> &mut Element {

@@ -242,6 +242,13 @@ enum Recorded {
 impl Recorded {
     /// "Answers aren't kept, so number 5 doesn't arise."
     fn make(&self, reference: &Reference, tables: Tables) -> Reply {
+        let lenient = Reference {
+            rules: Rules::with(Mutation::AnyCartridgeTaken),
+        };
+        let reference = match reference.rules.mutation {
+            Some(Mutation::ReplayTakesAnyCartridge) => &lenient,
+            _ => reference,
+        };
         let room = match reference.rules.broken_by(Mutation::AnswersNeedRoom) {
             true => 0,
             false => LARGEST_ANSWER,

@@ -2,6 +2,7 @@
 
 use std::fmt;
 
+use crate::cartridges::Cartridges;
 use crate::interface::Tables;
 use crate::library::{Kind, Labels};
 use crate::panel;
@@ -13,6 +14,7 @@ use crate::rules::{Mutation, Rules};
 const MOST_ELEMENTS: u32 = 512;
 const MOST_TRANSPORTS: u32 = 127;
 const MOST_VOLUMES: usize = 512;
+const MOST_GENERATION: u8 = 8;
 const MOST_HOSTS: u8 = 8;
 const LAST_ADDRESS: u32 = 65_535;
 
@@ -22,6 +24,8 @@ pub enum Clause {
     BlankLength,
     TagsLength,
     MostVolumes,
+    GenerationsLength,
+    GenerationNumber,
     EmptyRangeFirst,
     RangeWithin,
     RangeOverlap,
@@ -29,6 +33,7 @@ pub enum Clause {
     TransportCount,
     StorageOrImportExport,
     ElementsLength,
+    MasksLength,
     VolumeNumber,
     VolumeTwice,
     ZeroByte,
@@ -36,6 +41,7 @@ pub enum Clause {
     SourceAddress,
     SourceWhereEmpty,
     MarkPlace,
+    DriveTakes,
     HolderNumber,
     IdWithoutHolder,
     UnitHolderNumber,
@@ -48,11 +54,13 @@ pub enum Clause {
 
 impl Clause {
     /// In the order of judging.
-    pub const ALL: [Clause; 26] = [
+    pub const ALL: [Clause; 30] = [
         Clause::HeadLength,
         Clause::BlankLength,
         Clause::TagsLength,
         Clause::MostVolumes,
+        Clause::GenerationsLength,
+        Clause::GenerationNumber,
         Clause::EmptyRangeFirst,
         Clause::RangeWithin,
         Clause::RangeOverlap,
@@ -60,6 +68,7 @@ impl Clause {
         Clause::TransportCount,
         Clause::StorageOrImportExport,
         Clause::ElementsLength,
+        Clause::MasksLength,
         Clause::VolumeNumber,
         Clause::VolumeTwice,
         Clause::ZeroByte,
@@ -67,6 +76,7 @@ impl Clause {
         Clause::SourceAddress,
         Clause::SourceWhereEmpty,
         Clause::MarkPlace,
+        Clause::DriveTakes,
         Clause::HolderNumber,
         Clause::IdWithoutHolder,
         Clause::UnitHolderNumber,
@@ -83,6 +93,8 @@ impl Clause {
             Clause::BlankLength => "blank label of 36 bytes",
             Clause::TagsLength => "tags of whole labels",
             Clause::MostVolumes => "V at most 512",
+            Clause::GenerationsLength => "a generation for each volume",
+            Clause::GenerationNumber => "each generation 1 to 8",
             Clause::EmptyRangeFirst => "a count of 0 has first address 0",
             Clause::RangeWithin => "each range within 1 to 65,535",
             Clause::RangeOverlap => "no overlap",
@@ -90,6 +102,7 @@ impl Clause {
             Clause::TransportCount => "1 to 127 transports",
             Clause::StorageOrImportExport => "a storage or import/export element",
             Clause::ElementsLength => "8 bytes for each element",
+            Clause::MasksLength => "a mask for each drive",
             Clause::VolumeNumber => "volume number at most V",
             Clause::VolumeTwice => "a volume stands at most once",
             Clause::ZeroByte => "the zero byte 0",
@@ -97,6 +110,7 @@ impl Clause {
             Clause::SourceAddress => "a source is a storage address",
             Clause::SourceWhereEmpty => "source 0 where empty",
             Clause::MarkPlace => "mark only on a full import/export",
+            Clause::DriveTakes => "a full drive takes its volume's generation",
             Clause::HolderNumber => "holder at most 8",
             Clause::IdWithoutHolder => "id 0 where there is no holder",
             Clause::UnitHolderNumber => "unit holder at most 8",
@@ -130,6 +144,7 @@ pub fn fails_alone(tables: &Tables, clause: Clause) -> bool {
 pub(crate) fn judge(tables: &Tables, rules: Rules) -> Result<Records, Clause> {
     let judge = Judge { rules };
     judge.lengths(tables)?;
+    judge.generations(tables)?;
     let ranges = read_ranges(tables.head);
     judge.ranges(&ranges)?;
     judge.counts(&ranges)?;
@@ -138,9 +153,11 @@ pub(crate) fn judge(tables: &Tables, rules: Rules) -> Result<Records, Clause> {
         tables.elements.len() == count * ELEMENT_LENGTH,
         Clause::ElementsLength,
     )?;
+    judge.masks(tables, total_of(&ranges, &[Kind::Drive]) as usize)?;
     let records = Records::read(tables, &ranges);
     judge.volumes(&records.elements, tables.tags.len() / Labels::LENGTH)?;
     judge.places(&records.elements, &ranges)?;
+    judge.drives(&records.elements, tables)?;
     judge.holders(&records)?;
     judge.hosts(&records)?;
     let shown = panel::is_true(records.empty_shelves, &records.library(), rules);
@@ -176,6 +193,59 @@ impl Judge {
         self.require(tables.blank.len() == Labels::LENGTH, Clause::BlankLength)?;
         self.require(tags.is_multiple_of(Labels::LENGTH), Clause::TagsLength)?;
         self.require(tags / Labels::LENGTH <= MOST_VOLUMES, Clause::MostVolumes)
+    }
+
+    /// "Bad lengths or entries are number 1."
+    fn generations(&self, tables: &Tables) -> Result<(), Clause> {
+        let volumes = tables.tags.len() / Labels::LENGTH;
+        let given = tables.generations;
+        let right = match self.rules.mutation {
+            Some(Mutation::LongerGenerationsAreSound) => given.len() >= volumes,
+            _ => given.len() == volumes,
+        };
+        let known = |&generation: &u8| match self.rules.mutation {
+            Some(Mutation::GenerationZeroIsSound) => generation <= MOST_GENERATION,
+            Some(Mutation::GenerationNineIsSound) => generation >= 1,
+            _ => (1..=MOST_GENERATION).contains(&generation),
+        };
+        let judged = match self.rules.mutation {
+            Some(Mutation::LastGenerationUnjudged) => &given[..given.len().saturating_sub(1)],
+            Some(Mutation::GenerationsOf255Volumes) => &given[..given.len().min(255)],
+            _ => given,
+        };
+        self.require(right, Clause::GenerationsLength)?;
+        self.require(judged.iter().all(known), Clause::GenerationNumber)
+    }
+
+    /// A mask may have any value.
+    fn masks(&self, tables: &Tables, drives: usize) -> Result<(), Clause> {
+        let given = tables.masks;
+        let right = match self.rules.mutation {
+            Some(Mutation::LongerMasksAreSound) => given.len() >= drives,
+            Some(Mutation::MaskZeroIsNotSound) => given.len() == drives && !given.contains(&0),
+            _ => given.len() == drives,
+        };
+        self.require(right, Clause::MasksLength)
+    }
+
+    /// "A table that already has an ill-fitting volume in a drive is not sound."
+    fn drives(&self, elements: &[ElementRecord], tables: &Tables) -> Result<(), Clause> {
+        let cartridges = Cartridges {
+            generations: tables.generations,
+            masks: tables.masks,
+        };
+        let drives = elements
+            .iter()
+            .filter(|element| element.kind == Kind::Drive);
+        let fits = |(drive, element): (usize, &ElementRecord)| {
+            let (drive, volume) = match self.rules.mutation {
+                Some(Mutation::SoundByTheFirstMask) => (0, element.volume),
+                Some(Mutation::SoundByTheVolumeBehind) => (drive, element.volume.wrapping_add(1)),
+                _ => (drive, element.volume),
+            };
+            element.volume == 0 || cartridges.takes(drive, volume, self.rules)
+        };
+        self.require(drives.enumerate().all(fits), Clause::DriveTakes)
     }
 
     fn ranges(&self, ranges: &[AddressRange]) -> Result<(), Clause> {

@@ -1,7 +1,7 @@
 -- `case_calls::made` meets its contract: the fronts of the rooms are lent to the entry, and come back. Assumes nothing.
 use Rattle.rules.specs.Tables.{others}
 use Rattle.case_rooms.proofs.Lending.{front, given}
-use Rattle.case_calls.proofs.Fronts.{fresh, answered, carried}
+use Rattle.case_calls.proofs.Fronts.{fresh, answered, as-much, carried}
 use borrow.Author.Needs.{needs}
 use Rattle.case_calls.proofs.made.Statement.{statement}
 use Rattle.case_calls.proofs.made.Tie as tie
@@ -63,8 +63,20 @@ array-read-part-2 c = search needs
 part-requires-2 : tie.Need-part-requires-2
 part-requires-2 c κs = search needs
 
+array-read-part-3 : tie.Need-array-read-part-3
+array-read-part-3 c = search needs
+
 part-requires-3 : tie.Need-part-requires-3
 part-requires-3 c κs = search needs
+
+array-read-part-4 : tie.Need-array-read-part-4
+array-read-part-4 c = search needs
+
+part-requires-4 : tie.Need-part-requires-4
+part-requires-4 c κs = search needs
+
+part-requires-5 : tie.Need-part-requires-5
+part-requires-5 c κs = search needs
 
 sub-enter-3 : tie.Need-sub-enter-3
 sub-enter-3 c = search needs
@@ -85,12 +97,19 @@ same-length-2 : tie.Need-same-length-2
 same-length-2 c = search needs
 
 same-length-3 : tie.Need-same-length-3
-same-length-3 c = search needs
+same-length-3 c =
+    let enter = c .before .before .before .before .before .before in
+    let fill = enter .before .before .before .before .before .before .before .before .before .before .before in
+    let least3 = fill .before .before in
+    let left = enter .enter .last .1 .1 .1 .1 .1 .1 .1 .1 .1 .1 .1 .1 .0 in
+    as-much _ _ _ (least3 .least3 .ensures .1) _ (fill .fill .ensures) left (enter .enter .kept .1 .1 .1 .1 .1 .1 .1 .1 .1 .1 .1 .1 .0)
 
 returns : tie.Need-returns
 returns c =
     let enter = c .before .before .before .before .before .before in
-    let part3 = enter .before .before in
+    let part5 = enter .before .before in
+    let part4 = part5 .before in
+    let part3 = part4 .before in
     let part2 = part3 .before in
     let part = part2 .before in
     let fill = part .before .before .before .before .before in
@@ -101,11 +120,11 @@ returns c =
     carried _ _ _ _ _ _ _ _ _ _ _ _ _ _ _ _ _ _ _ _ _ _
     (given _ _ _ (least .least .ensures .1) _ (kept .0))
     (given _ _ _ (least2 .least2 .ensures .1) _ (kept .1 .0))
-    (answered _ _ _ (least3 .least3 .ensures .1) _ (fill .fill .ensures) _ (kept .1 .1 .1 .1 .1 .1 .0))
+    (answered _ _ _ (least3 .least3 .ensures .1) _ (fill .fill .ensures) _ (kept .1 .1 .1 .1 .1 .1 .1 .1 .0))
     (front _ _ _ (least .least .ensures .1))
     (front _ _ _ (least2 .least2 .ensures .1))
-    (λ i. others (part .part .ensures i) (part2 .part2 .ensures i))
-    (part3 .part3 .ensures)
+    (λ i. others (part .part .ensures i) (part2 .part2 .ensures i) (part3 .part3 .ensures i) (part4 .part4 .ensures i))
+    (part5 .part5 .ensures)
     (fresh _ _ _ (least3 .least3 .ensures .1) _ (fill .fill .ensures))
     (enter .enter .ensures)
 
@@ -132,7 +151,11 @@ made-spec =
     part-requires
     array-read-part-2
     part-requires-2
+    array-read-part-3
     part-requires-3
+    array-read-part-4
+    part-requires-4
+    part-requires-5
     sub-enter-3
     part-enter-start-3
     part-enter-end-3

@@ -51,8 +51,20 @@ array-read-part-2 c = search needs
 part-requires-3 : tie.Need-part-requires-3
 part-requires-3 c κs = search needs
 
+array-read-part-3 : tie.Need-array-read-part-3
+array-read-part-3 c = search needs
+
 part-requires-4 : tie.Need-part-requires-4
 part-requires-4 c κs = search needs
+
+array-read-part-4 : tie.Need-array-read-part-4
+array-read-part-4 c = search needs
+
+part-requires-5 : tie.Need-part-requires-5
+part-requires-5 c κs = search needs
+
+part-requires-6 : tie.Need-part-requires-6
+part-requires-6 c κs = search needs
 
 smc-replay-requires : tie.Need-smc-replay-requires
 smc-replay-requires c κs = search needs
@@ -66,7 +78,9 @@ same-length-2 c = search needs
 returns : tie.Need-returns
 returns c =
     let call = c .before .before .before .before in
-    let part4 = call .before in
+    let part6 = call .before in
+    let part5 = part6 .before in
+    let part4 = part5 .before in
     let part3 = part4 .before in
     let part2 = part3 .before in
     let part = part2 .before .before .before in
@@ -78,8 +92,8 @@ returns c =
     (given _ _ _ (least2 .least2 .ensures .1) _ (kept .1 .0))
     (front _ _ _ (least .least .ensures .1))
     (front _ _ _ (least2 .least2 .ensures .1))
-    (λ i. others (part2 .part2 .ensures i) (part3 .part3 .ensures i))
-    (log-is _ _ _ _ _ (part .part .ensures) (part4 .part4 .ensures))
+    (λ i. others (part2 .part2 .ensures i) (part3 .part3 .ensures i) (part4 .part4 .ensures i) (part5 .part5 .ensures i))
+    (log-is _ _ _ _ _ (part .part .ensures) (part6 .part6 .ensures))
     (call .smc-replay .ensures)
 
 pub made-spec : {M : Type 1} → statement M
@@ -101,7 +115,11 @@ made-spec =
     part-requires-2
     array-read-part-2
     part-requires-3
+    array-read-part-3
     part-requires-4
+    array-read-part-4
+    part-requires-5
+    part-requires-6
     smc-replay-requires
     same-length
     same-length-2

@@ -13,7 +13,8 @@ event-of-requires c κs = search needs
 
 occur-requires : tie.Need-occur-requires
 occur-requires c κs =
-    let start = c .before .before .before .before .before .before .before .before .before .before .before in
+    let asked = c .before .before .before .before in
+    let start = asked .before .before .before .before .before .before .before .before .before in
     importable _ _ _ (start .pre .sound-now) _ (start .pre .runs-are)
 
 same-length : tie.Need-same-length
@@ -30,7 +31,7 @@ returns c =
     let occur = c .before .before .before .before in
     let event = occur .before .before .before in
     let yes1 = event .before .before in
-    let start = yes1 .before .before .before .before .before .before .before in
+    let start = yes1 .before .before .before .before .before .before .before .before .before in
     λ e. occur .occur .ensures _ e refl (start .pre .sound-now) ∙ ap (turnOn _ e) (event .event-of .ensures e) ∙ of-event (lent _ _ _) _ _ _ e (yes1 .if1 .taken)
 
 obey-requires : tie.Need-obey-requires

@@ -18,7 +18,7 @@ known-host-requires c κs = search needs
 returns : tie.Need-returns
 returns c =
     let known = c .before in
-    let start = known .before .before .before .before .before .before .before in
+    let start = known .before .before .before .before .before .before .before .before .before in
     no-host (lent _ _ _) _ _ _ (start .pre .sound-now) _ (known .known-host .ensures) (not-true _ (c .if1 .taken))
 
 block-fits-requires : tie.Need-block-fits-requires
@@ -32,7 +32,7 @@ returns-2 c =
     let fits = c .before in
     let no1 = fits .before .before in
     let known = no1 .before in
-    let start = known .before .before .before .before .before .before .before in
+    let start = known .before .before .before .before .before .before .before .before .before in
     no-block (lent _ _ _) _ _ _ (start .pre .sound-now) _ (known .known-host .ensures) (not-false _ (no1 .if1 .left)) _ (fits .block-fits .ensures) (not-true _ (c .if2 .taken))
 
 slice-read-decode : tie.Need-slice-read-decode
@@ -64,7 +64,7 @@ returns-3 c =
     let fits = no2 .before in
     let no1 = fits .before .before in
     let known = no1 .before in
-    let start = known .before .before .before .before .before .before .before in
+    let start = known .before .before .before .before .before .before .before .before .before in
     no-list (lent _ _ _) _ _ _ (start .pre .sound-now) _ (known .known-host .ensures) (not-false _ (no1 .if1 .left)) _ (fits .block-fits .ensures) (not-false _ (no2 .if2 .left)) _ (fit-is _ _ (told .decode .ensures) _ _ (given .parameters-fit .ensures)) (not-true _ (c .if3 .taken))
 
 mute-requires : tie.Need-mute-requires
@@ -89,7 +89,7 @@ steps-requires c κs =
     let fits = no2 .before in
     let no1 = fits .before .before in
     let known = no1 .before in
-    let start = known .before .before .before .before .before .before .before in
+    let start = known .before .before .before .before .before .before .before .before .before in
     let h = sym (known .known-host .ensures) ∙ not-false _ (no1 .if1 .left) in
     record {
       suited = suited _ _ _ (start .pre .sound-now) _ (start .pre .runs-are);
@@ -119,8 +119,8 @@ returns-4 c =
     let fits = no2 .before in
     let no1 = fits .before .before in
     let known = no1 .before in
-    let start = known .before .before .before .before .before .before .before in
-    obeyed (lent _ _ _) _ _ _ (start .pre .sound-now) _ (known .known-host .ensures) (not-false _ (no1 .if1 .left)) _ (fits .block-fits .ensures) (not-false _ (no2 .if2 .left)) _ (fit-is _ _ (told .decode .ensures) _ _ (given .parameters-fit .ensures)) (not-false _ (no3 .if3 .left)) _ (fitting _ _ (told .decode .ensures) (sym (fits .block-fits .ensures) ∙ not-false _ (no2 .if2 .left)) .decoded) _ (mute .mute .ensures) _ _ (steps .steps .ensures _ (record { tags-is = refl; blank-is = refl }))
+    let start = known .before .before .before .before .before .before .before .before .before in
+    obeyed (lent _ _ _) _ _ _ (start .pre .sound-now) _ (known .known-host .ensures) (not-false _ (no1 .if1 .left)) _ (fits .block-fits .ensures) (not-false _ (no2 .if2 .left)) _ (fit-is _ _ (told .decode .ensures) _ _ (given .parameters-fit .ensures)) (not-false _ (no3 .if3 .left)) _ (fitting _ _ (told .decode .ensures) (sym (fits .block-fits .ensures) ∙ not-false _ (no2 .if2 .left)) .decoded) _ (mute .mute .ensures) _ _ (steps .steps .ensures)
 
 pub obey-spec : {M : Type 1} → statement M
 obey-spec =

@@ -47,6 +47,12 @@ enum-told-7 c = search needs
 check-requires-7 : tie.Need-check-requires-7
 check-requires-7 c κs = search needs
 
+enum-told-8 : tie.Need-enum-told-8
+enum-told-8 c = search needs
+
+check-requires-8 : tie.Need-check-requires-8
+check-requires-8 c κs = search needs
+
 same-length : tie.Need-same-length
 same-length c = search needs
 
@@ -96,6 +102,13 @@ returns-7 : tie.Need-returns-7
 unfolding refused reason
 returns-7 c = λ elements rest buffer. rw (c .before .before .before .before .enum-told7 .given .1) (c .before .before .check7 .ensures elements rest buffer)
 
+same-length-8 : tie.Need-same-length-8
+same-length-8 c = search needs
+
+returns-8 : tie.Need-returns-8
+unfolding refused reason
+returns-8 c = λ elements rest buffer. rw (c .before .before .before .before .enum-told8 .given .1) (c .before .before .check8 .ensures elements rest buffer)
+
 pub refuse-spec : {M : Type 1} → statement M
 refuse-spec =
     tie.close
@@ -114,6 +127,8 @@ refuse-spec =
     check-requires-6
     enum-told-7
     check-requires-7
+    enum-told-8
+    check-requires-8
     same-length
     returns
     same-length-2
@@ -127,4 +142,6 @@ refuse-spec =
     same-length-6
     returns-6
     same-length-7
-    returns-7)
+    returns-7
+    same-length-8
+    returns-8)

@@ -178,7 +178,7 @@ returns-5 c =
     let whole = known .before in
     let asked = whole .before in
     let checked = asked .before in
-    ends-as _ _ (called .steps .ensures _ (record { tags-is = refl; blank-is = refl }))
+    ends-as _ _ (called .steps .ensures)
     (yes _ _ _ _ _ (checked .check .ensures .0) (not-false _ (whole .if1 .left))
     (yes _ _ _ _ _ (asked .known-host .ensures) (not-false _ (known .if2 .left))
     (yes _ _ _ _ _ (read .block-fits .ensures) (not-false _ (fits .if3 .left))

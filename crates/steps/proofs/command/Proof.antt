@@ -1,5 +1,5 @@
 -- `steps::command` meets its contract. Assumes nothing.
-use mathlib.Core.Path.{sym, _∙_}
+use mathlib.Core.Path.{refl, sym, _∙_}
 use mathlib.Core.List.{[]}
 use Rattle.rules.specs.Tables.{lent, bare}
 use Rattle.rules.specs.Command.{act}
@@ -20,7 +20,7 @@ enum-told c = search needs
 good-requires : tie.Need-good-requires
 good-requires c κs =
     let chosen = c .before in
-    let began = chosen .before .before .before .before .before .before .before .before .before in
+    let began = chosen .before .before .before .before .before .before .before .before .before .before .before in
     let s = began .pre .0 in
     (s .suited .ready-to-move .head-length, s .host-most)
 
@@ -31,7 +31,7 @@ request-sense-requires : tie.Need-request-sense-requires
 unfolding meaning
 request-sense-requires c κs =
     let chosen = c .before .before in
-    let began = chosen .before .before .before .before .before .before .before .before .before in
+    let began = chosen .before .before .before .before .before .before .before .before .before .before .before in
     let s = began .pre .0 in
     (s .suited .ready-to-move .head-length, (s .host-most, sized _ _ _ (s .fitting) (chosen .enum-told2 .given .1)))
 
@@ -42,7 +42,7 @@ reserve-requires : tie.Need-reserve-requires
 unfolding meaning
 reserve-requires c κs =
     let chosen = c .before .before in
-    let began = chosen .before .before .before .before .before .before .before .before .before in
+    let began = chosen .before .before .before .before .before .before .before .before .before .before .before in
     let s = began .pre .0 in
     record {
       head-long = s .suited .ready-to-move .head-length;
@@ -60,7 +60,7 @@ release-requires : tie.Need-release-requires
 unfolding meaning
 release-requires c κs =
     let chosen = c .before .before in
-    let began = chosen .before .before .before .before .before .before .before .before .before in
+    let began = chosen .before .before .before .before .before .before .before .before .before .before .before in
     let s = began .pre .0 in
     (s .suited .ready-to-move .head-length, (s .host-most, sized _ _ _ (s .fitting) (chosen .enum-told4 .given .1)))
 
@@ -71,7 +71,7 @@ prevent-allow-requires : tie.Need-prevent-allow-requires
 unfolding meaning
 prevent-allow-requires c κs =
     let chosen = c .before in
-    let began = chosen .before .before .before .before .before .before .before .before .before in
+    let began = chosen .before .before .before .before .before .before .before .before .before .before .before in
     let s = began .pre .0 in
     (s .suited .ready-to-move .head-length, (s .host-some, (s .host-most, sized _ _ _ (s .fitting) (chosen .enum-told5 .given .1))))
 
@@ -82,7 +82,7 @@ move-medium-requires : tie.Need-move-medium-requires
 unfolding meaning
 move-medium-requires c κs =
     let chosen = c .before .before in
-    let began = chosen .before .before .before .before .before .before .before .before .before in
+    let began = chosen .before .before .before .before .before .before .before .before .before .before .before in
     let s = began .pre .0 in
     (s .suited .ready-to-move, (s .host-some, (s .host-most, sized _ _ _ (s .fitting) (chosen .enum-told6 .given .1))))
 
@@ -93,7 +93,7 @@ exchange-medium-requires : tie.Need-exchange-medium-requires
 unfolding meaning
 exchange-medium-requires c κs =
     let chosen = c .before .before in
-    let began = chosen .before .before .before .before .before .before .before .before .before in
+    let began = chosen .before .before .before .before .before .before .before .before .before .before .before in
     let s = began .pre .0 in
     (s .suited .ready-to-move, (s .host-some, (s .host-most, sized _ _ _ (s .fitting) (chosen .enum-told7 .given .1))))
 
@@ -104,7 +104,7 @@ read-element-status-requires : tie.Need-read-element-status-requires
 unfolding meaning
 read-element-status-requires c κs =
     let chosen = c .before .before .before in
-    let began = chosen .before .before .before .before .before .before .before .before .before in
+    let began = chosen .before .before .before .before .before .before .before .before .before .before .before in
     let s = began .pre .0 in
     s .suited .ready-to-list _ _ (s .host-most) (sized _ _ _ (s .fitting) (chosen .enum-told8 .given .1))
 
@@ -115,7 +115,7 @@ mode-sense-requires : tie.Need-mode-sense-requires
 unfolding meaning
 mode-sense-requires c κs =
     let chosen = c .before .before in
-    let began = chosen .before .before .before .before .before .before .before .before .before in
+    let began = chosen .before .before .before .before .before .before .before .before .before .before .before in
     let s = began .pre .0 in
     record {
       head-long = s .suited .ready-to-move .head-length;
@@ -130,7 +130,7 @@ enum-told-10 c = search needs
 refuse-requires : tie.Need-refuse-requires
 refuse-requires c κs =
     let chosen = c .before in
-    let began = chosen .before .before .before .before .before .before .before .before .before in
+    let began = chosen .before .before .before .before .before .before .before .before .before .before .before in
     let s = began .pre .0 in
     (s .suited .ready-to-move .head-length, s .host-most)
 
@@ -142,7 +142,7 @@ unfolding act meaning
 returns c =
     let called = c .before .before in
     let chosen = called .before .before in
-    λ rest lends. ends-as _ _ (called .good2 .ensures _ rest _) (sym (good-fits (lent [] [] bare) _ [] _ []) ∙ acts _ _ (chosen .enum-told .given .1) _ _ _ _ _)
+    ends-as _ _ (called .good2 .ensures _ _ _) (sym (good-fits (lent [] [] bare) _ [] _ []) ∙ acts _ _ (chosen .enum-told .given .1) _ _ _ _ _)
 
 same-length-2 : tie.Need-same-length-2
 same-length-2 c = search needs
@@ -155,7 +155,7 @@ unfolding act meaning
 returns-2 c =
     let called = c .before .before .before .before in
     let chosen = called .before .before .before in
-    λ rest lends. ends-as _ _ (called .request-sense .ensures _ rest) (acts _ _ (chosen .enum-told2 .given .1) _ _ _ _ _)
+    ends-as _ _ (called .request-sense .ensures _ _) (acts _ _ (chosen .enum-told2 .given .1) _ _ _ _ _)
 
 same-length-4 : tie.Need-same-length-4
 same-length-4 c = search needs
@@ -168,7 +168,7 @@ unfolding act meaning
 returns-3 c =
     let called = c .before .before .before .before in
     let chosen = called .before .before .before in
-    λ rest lends. ends-as _ _ (called .reserve .ensures rest _) (sym (reserve-fits _ _ _ _ _) ∙ acts _ _ (chosen .enum-told3 .given .1) _ _ _ _ _)
+    ends-as _ _ (called .reserve .ensures _ _) (sym (reserve-fits _ _ _ _ _) ∙ acts _ _ (chosen .enum-told3 .given .1) _ _ _ _ _)
 
 same-length-6 : tie.Need-same-length-6
 same-length-6 c = search needs
@@ -181,7 +181,7 @@ unfolding act meaning
 returns-4 c =
     let called = c .before .before .before .before in
     let chosen = called .before .before .before in
-    λ rest lends. ends-as _ _ (called .release .ensures rest _) (sym (release-fits _ _ _ _) ∙ acts _ _ (chosen .enum-told4 .given .1) _ _ _ _ _)
+    ends-as _ _ (called .release .ensures _ _) (sym (release-fits _ _ _ _) ∙ acts _ _ (chosen .enum-told4 .given .1) _ _ _ _ _)
 
 same-length-8 : tie.Need-same-length-8
 same-length-8 c = search needs
@@ -191,7 +191,7 @@ unfolding act meaning
 returns-5 c =
     let called = c .before .before in
     let chosen = called .before .before in
-    λ rest lends. ends-as _ _ (called .prevent-allow .ensures _ rest _) (sym (prevent-fits _ _ _ _) ∙ acts _ _ (chosen .enum-told5 .given .1) _ _ _ _ _)
+    ends-as _ _ (called .prevent-allow .ensures _ _ _) (sym (prevent-fits _ _ _ _) ∙ acts _ _ (chosen .enum-told5 .given .1) _ _ _ _ _)
 
 same-length-9 : tie.Need-same-length-9
 same-length-9 c = search needs
@@ -204,7 +204,7 @@ unfolding act meaning
 returns-6 c =
     let called = c .before .before .before .before in
     let chosen = called .before .before .before in
-    λ rest lends. ends-as _ _ (called .move-medium .ensures rest _) (sym (move-fits _ _ _ _) ∙ acts _ _ (chosen .enum-told6 .given .1) _ _ _ _ _)
+    ends-as _ _ (called .move-medium .ensures _ _ refl refl) (sym (move-fits _ _ _ _) ∙ acts _ _ (chosen .enum-told6 .given .1) _ _ _ _ _)
 
 same-length-11 : tie.Need-same-length-11
 same-length-11 c = search needs
@@ -217,7 +217,7 @@ unfolding act meaning
 returns-7 c =
     let called = c .before .before .before .before in
     let chosen = called .before .before .before in
-    λ rest lends. ends-as _ _ (called .exchange-medium .ensures rest _) (sym (exchange-fits _ _ _ _) ∙ acts _ _ (chosen .enum-told7 .given .1) _ _ _ _ _)
+    ends-as _ _ (called .exchange-medium .ensures _ _ refl refl) (sym (exchange-fits _ _ _ _) ∙ acts _ _ (chosen .enum-told7 .given .1) _ _ _ _ _)
 
 same-length-13 : tie.Need-same-length-13
 same-length-13 c = search needs
@@ -233,7 +233,7 @@ unfolding act meaning
 returns-8 c =
     let called = c .before .before .before .before in
     let chosen = called .before .before .before .before in
-    λ rest lends. ends-as _ _ (called .read-element-status .ensures rest lends) (acts _ _ (chosen .enum-told8 .given .1) _ _ _ _ _)
+    ends-as _ _ (called .read-element-status .ensures _ (record { tags-is = refl; blank-is = refl })) (acts _ _ (chosen .enum-told8 .given .1) _ _ _ _ _)
 
 same-length-16 : tie.Need-same-length-16
 same-length-16 c = search needs
@@ -246,7 +246,7 @@ unfolding act meaning
 returns-9 c =
     let called = c .before .before .before .before in
     let chosen = called .before .before .before in
-    λ rest lends. ends-as _ _ (called .mode-sense .ensures _ rest) (acts _ _ (chosen .enum-told9 .given .1) _ _ _ _ _)
+    ends-as _ _ (called .mode-sense .ensures _ _) (acts _ _ (chosen .enum-told9 .given .1) _ _ _ _ _)
 
 same-length-18 : tie.Need-same-length-18
 same-length-18 c = search needs
@@ -256,7 +256,7 @@ unfolding act meaning reason
 returns-10 c =
     let called = c .before .before in
     let chosen = called .before .before in
-    λ rest lends. ends-as _ _ (called .refuse .ensures _ rest _) (sym (refused-fits (lent [] [] bare) _ [] _ _) ∙ acts _ _ (chosen .enum-told10 .given .1) _ _ _ _ _)
+    ends-as _ _ (called .refuse .ensures _ _ _) (sym (refused-fits (lent [] [] bare) _ [] _ _) ∙ acts _ _ (chosen .enum-told10 .given .1) _ _ _ _ _)
 
 pub command-spec : {M : Type 1} → statement M
 command-spec =

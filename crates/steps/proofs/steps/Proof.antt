@@ -11,7 +11,7 @@ use Rattle.steps.proofs.steps.Tie as tie
 
 judge-requires : tie.Need-judge-requires
 judge-requires c κs =
-    let began = c .before .before .before .before .before .before .before .before in
+    let began = c .before .before .before .before .before .before .before .before .before .before in
     let s = began .pre in
     (s .suited .ready-to-move .head-length, (s .host-most, s .fitting))
 
@@ -22,7 +22,7 @@ report-attention-requires : tie.Need-report-attention-requires
 report-attention-requires c κs =
     let told = c .before in
     let judged = told .before .before in
-    let began = judged .before .before .before .before .before .before .before .before .before in
+    let began = judged .before .before .before .before .before .before .before .before .before .before .before in
     let s = began .pre in
     (s .suited .ready-to-move .head-length, (s .host-most, is-pending _ (lent _ [] bare) _ _ _ _ (judged .judge .ensures) (told .enum-told .given .1)))
 
@@ -32,7 +32,7 @@ enum-told-2 c = search needs
 conflict-requires : tie.Need-conflict-requires
 conflict-requires c κs =
     let judged = c .before .before .before in
-    let began = judged .before .before .before .before .before .before .before .before .before in
+    let began = judged .before .before .before .before .before .before .before .before .before .before .before in
     let s = began .pre in
     (s .suited .ready-to-move .head-length, s .host-most)
 
@@ -42,7 +42,7 @@ enum-known-at c = search needs
 refuse-requires : tie.Need-refuse-requires
 refuse-requires c κs =
     let judged = c .before .before .before .before in
-    let began = judged .before .before .before .before .before .before .before .before .before in
+    let began = judged .before .before .before .before .before .before .before .before .before .before .before in
     let s = began .pre in
     (s .suited .ready-to-move .head-length, s .host-most)
 
@@ -53,7 +53,7 @@ command-requires : tie.Need-command-requires
 command-requires c κs =
     let told = c .before .before .before in
     let judged = told .before .before in
-    let began = judged .before .before .before .before .before .before .before .before .before in
+    let began = judged .before .before .before .before .before .before .before .before .before .before .before in
     (began .pre, is-open _ (lent _ [] bare) _ _ _ _ (judged .judge .ensures) (told .enum-told3 .given .1))
 
 same-length : tie.Need-same-length
@@ -64,7 +64,7 @@ returns c =
     let called = c .before .before in
     let told = called .before .before in
     let judged = told .before .before in
-    λ rest lends. ends-as _ _ (called .report-attention .ensures _ rest _ _) (pending-ends _ (lent _ _ rest) _ _ _ _ _ (judged .judge .ensures) (told .enum-told .given .1))
+    ends-as _ _ (called .report-attention .ensures _ _ _ _) (pending-ends _ (lent _ _ _) _ _ _ _ _ (judged .judge .ensures) (told .enum-told .given .1))
 
 same-length-2 : tie.Need-same-length-2
 same-length-2 c = search needs
@@ -74,7 +74,7 @@ returns-2 c =
     let called = c .before .before in
     let told = called .before .before in
     let judged = told .before .before in
-    λ rest lends. ends-as _ _ (called .conflict .ensures _ rest _) (held-ends _ (lent _ _ rest) _ _ _ _ _ (judged .judge .ensures) (told .enum-told2 .given .1))
+    ends-as _ _ (called .conflict .ensures _ _ _) (held-ends _ (lent _ _ _) _ _ _ _ _ (judged .judge .ensures) (told .enum-told2 .given .1))
 
 same-length-3 : tie.Need-same-length-3
 same-length-3 c = search needs
@@ -85,7 +85,7 @@ returns-3 c =
     let called = c .before .before in
     let told = called .before .before .before in
     let judged = told .before .before in
-    λ rest lends. ends-as _ _ (called .refuse .ensures _ rest _) (faulty-ends _ (lent _ _ rest) _ _ _ _ _ (judged .judge .ensures) _ (told .at .given .1))
+    ends-as _ _ (called .refuse .ensures _ _ _) (faulty-ends _ (lent _ _ _) _ _ _ _ _ (judged .judge .ensures) _ (told .at .given .1))
 
 same-length-4 : tie.Need-same-length-4
 same-length-4 c = search needs
@@ -101,7 +101,7 @@ returns-4 c =
     let called = c .before .before .before .before .before .before in
     let told = called .before .before .before .before in
     let judged = told .before .before in
-    λ rest lends. ends-as _ _ (called .command .ensures rest lends) (open-ends _ (lent _ _ rest) _ _ _ _ _ (judged .judge .ensures) (told .enum-told3 .given .1))
+    ends-as _ _ (called .command .ensures) (open-ends _ (lent _ _ _) _ _ _ _ _ (judged .judge .ensures) (told .enum-told3 .given .1))
 
 pub steps-spec : {M : Type 1} → statement M
 steps-spec =

@@ -86,7 +86,7 @@ impl Answered {
 }
 
 impl Library {
-    /// The small library, with labels for three volumes.
+    /// The small library, with labels for three volumes of generation 1, which the drive takes.
     pub fn small() -> Library {
         let ranges = [
             [0x00, 0x01, 0, 1],
@@ -96,12 +96,16 @@ impl Library {
         ];
         let elements = [EMPTY, EMPTY, EMPTY, VOLUME_1, EMPTY, VOLUME_2, EMPTY];
         let labels = [b"ABC123L1", b"ABC124L1", b"ABC125L1"];
-        Library(TableBytes::labelled(
-            [&ranges.concat()[..], &[0; 2], &[0; 40], &[0, 2]].concat(),
-            elements.concat(),
-            labels.map(label).concat(),
-            blank_label(),
-        ))
+        Library(TableBytes {
+            generations: vec![1, 1, 1],
+            masks: vec![0x01],
+            ..TableBytes::labelled(
+                [&ranges.concat()[..], &[0; 2], &[0; 40], &[0, 2]].concat(),
+                elements.concat(),
+                labels.map(label).concat(),
+                blank_label(),
+            )
+        })
     }
 
     /// A command without parameters and with room for any answer of the small library.
@@ -222,6 +226,13 @@ impl Library {
         let records = self.elements.chunks_exact(8).skip(behind).take(shelves);
         let empty = records.filter(|record| record[..2] == [0, 0]).count();
         self.show_empty_shelves(empty as u16);
+    }
+
+    /// As many generations as labels and as many masks as drives: all of generation 1, and each drive takes that.
+    pub fn fit_cartridges(&mut self) {
+        let drives = u16::from_be_bytes([self.head[14], self.head[15]]);
+        self.generations = vec![1; self.tags.len() / 36];
+        self.masks = vec![0x01; drives.into()];
     }
 
     /// Holder and id only; volume, source and mark stay.

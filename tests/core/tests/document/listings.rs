@@ -72,6 +72,7 @@ fn a_type_without_elements_is_a_header_of_zeros() {
     let mut library = Library::small();
     library.head[12..16].fill(0);
     library.elements.drain(8 * AT_0100..8 * AT_0100 + 8);
+    library.fit_cartridges();
     let answered = library.command(1, &read_block(4, 0, 0xFFFF));
     assert_eq!(answered.reply, good(8));
     assert_eq!(answered.returned(), [0; 8]);
@@ -187,6 +188,7 @@ fn the_largest_answer_is_26664_bytes() {
     let ranges = [[0, 1, 0, 1], [0, 9, 1, 0xFC], [0, 3, 0, 1], [0, 5, 0, 2]];
     library.head[..16].copy_from_slice(&ranges.concat());
     library.elements = vec![0; 8 * 512];
+    library.fit_cartridges();
     library.show_empty_shelves(508);
     let block = [0xB8, 0x10, 0, 0, 0xFF, 0xFF, 0, 0xFF, 0xFF, 0xFF, 0, 0];
     let short = library.with_buffer(1, &block, &[], 26_663);

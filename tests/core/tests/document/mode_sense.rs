@@ -31,6 +31,7 @@ fn with_transports(transports: u8) -> Library {
     let mut library = Library::small();
     library.head[..16].copy_from_slice(&ranges.concat());
     library.elements = vec![0; 8 * (usize::from(transports) + 1)];
+    library.fit_cartridges();
     library.show_empty_shelves(1);
     library
 }

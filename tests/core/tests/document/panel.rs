@@ -98,6 +98,7 @@ fn three_hundred() -> Library {
     library.head[..16].copy_from_slice(&ranges.concat());
     library.elements = vec![0; 8 * 302];
     library.tags = vec![0x41; 36 * 50];
+    library.fit_cartridges();
     library.elements[8 + 1] = 1;
     for shelf in 0..44 {
         library.elements[8 * (2 + shelf) + 1] = 2 + shelf as u8;

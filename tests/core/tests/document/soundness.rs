@@ -36,6 +36,7 @@ fn library_of(ranges: [(u16, u16); 4]) -> Library {
         library.head[4 * place + 2..4 * place + 4].copy_from_slice(&count.to_be_bytes());
     }
     library.elements = vec![0; 8 * count];
+    library.fit_cartridges();
     library.recount();
     library
 }
@@ -62,16 +63,26 @@ fn all_lengths_are_exact() {
     expect_broken(Clause::ElementsLength, |l| l.elements.extend([0; 8]));
     expect_broken(Clause::ElementsLength, |l| l.elements.truncate(48));
     expect_broken(Clause::ElementsLength, |l| l.elements.clear());
+    expect_broken(Clause::GenerationsLength, |l| {
+        l.generations.pop();
+    });
+    expect_broken(Clause::GenerationsLength, |l| l.generations.push(1));
+    expect_broken(Clause::GenerationsLength, |l| l.generations.clear());
+    expect_broken(Clause::MasksLength, |l| l.masks.push(1));
+    expect_broken(Clause::MasksLength, |l| l.masks.clear());
 }
 
 #[test]
 fn v_is_at_most_512_and_may_be_0() {
     let mut library = library_of([(1, 1), (2, 1), (0, 0), (0, 0)]);
     library.tags = vec![0; 36 * 512];
+    library.generations = vec![8; 512];
     expect(&library, Ok(()));
     library.tags = vec![0; 36 * 513];
+    library.generations = vec![8; 513];
     expect(&library, Err(Clause::MostVolumes));
     library.tags.clear();
+    library.generations.clear();
     expect(&library, Ok(()));
 }
 

@@ -14,6 +14,7 @@ pub fn gx80() -> Library {
     let mut library = Library::small();
     library.head[..16].copy_from_slice(&ranges.concat());
     library.elements = vec![0; 8 * 85];
+    library.fit_cartridges();
     library.show_empty_shelves(80);
     library
 }

@@ -5,16 +5,14 @@ use reference::Clause;
 
 use super::sound;
 use crate::random::Random;
-use crate::scene::{Scene, HEAD_LENGTH};
+use crate::scene::{bit, Scene, HEAD_LENGTH, MOST_GENERATION};
 
 /// Sound tables with this clause broken, and no clause that is judged before it.
 pub fn broken_scene(random: &mut Random, clause: Clause) -> Scene {
     loop {
         let mut scene = suited_scene(random, clause);
         if break_clause(random, &mut scene, clause).is_some() {
-            if clause != Clause::EmptyShelves {
-                scene.recount();
-            }
+            mend(&mut scene, [clause, clause]);
             return scene;
         }
     }
@@ -28,11 +26,19 @@ pub fn doubly_broken_scene(random: &mut Random) -> Scene {
     let lengths_are_kept = scene.tables.elements.len() == 8 * scene.places.len();
     if first != second && lengths_are_kept && scene.tables.head.len() == HEAD_LENGTH {
         break_clause(random, &mut scene, first.min(second));
-        if first.max(second) != Clause::EmptyShelves {
-            scene.recount();
-        }
+        mend(&mut scene, [first, second]);
     }
     scene
+}
+
+/// What no one asked for is not broken: the number of empty shelves, and what the drives take.
+fn mend(scene: &mut Scene, broken: [Clause; 2]) {
+    if !broken.contains(&Clause::EmptyShelves) {
+        scene.recount();
+    }
+    if !broken.contains(&Clause::DriveTakes) {
+        scene.admit();
+    }
 }
 
 /// Clauses that count elements need tables laid out for them; the others take any.
@@ -58,11 +64,17 @@ fn break_clause(random: &mut Random, scene: &mut Scene, clause: Clause) -> Optio
     match clause {
         Clause::HeadLength => wrong_length(random, &mut scene.tables.head, 1),
         Clause::BlankLength => wrong_length(random, &mut scene.tables.blank, 1),
-        Clause::TagsLength => wrong_length(random, &mut scene.tables.tags, 36),
+        Clause::TagsLength => {
+            wrong_length(random, &mut scene.tables.tags, 36);
+            as_many_generations(random, scene);
+        }
         Clause::MostVolumes => {
             let labels = random.pick(&[513, 514, 600]);
             scene.tables.tags.resize(36 * labels, 0x20);
+            as_many_generations(random, scene);
         }
+        Clause::GenerationsLength => other_length(random, &mut scene.tables.generations),
+        Clause::GenerationNumber => wrong_generation(random, scene)?,
         Clause::EmptyRangeFirst => empty_range_first(random, scene)?,
         Clause::RangeWithin => {
             range_outside(random, scene);
@@ -75,6 +87,8 @@ fn break_clause(random: &mut Random, scene: &mut Scene, clause: Clause) -> Optio
         Clause::ElementCount => no_elements_at_all(random, scene),
         Clause::TransportCount | Clause::StorageOrImportExport => {}
         Clause::ElementsLength => wrong_length(random, &mut scene.tables.elements, 1),
+        Clause::MasksLength => other_length(random, &mut scene.tables.masks),
+        Clause::DriveTakes => wrong_cartridge(random, scene)?,
         Clause::HolderNumber
         | Clause::IdWithoutHolder
         | Clause::UnitHolderNumber
@@ -102,6 +116,64 @@ fn wrong_length(random: &mut Random, bytes: &mut Vec<u8>, unit: usize) {
         };
         bytes.resize(length, 0);
     }
+}
+
+/// As many bytes more or fewer, or none; what is added is 1, which is a generation and a mask like any other.
+fn other_length(random: &mut Random, bytes: &mut Vec<u8>) {
+    let right = bytes.len();
+    while bytes.len() == right {
+        let length = match random.below(5) {
+            0 => 0,
+            1 => right.saturating_sub(1),
+            2 => right + 1,
+            3 => right + 256,
+            _ => random.between(0, 2 * right),
+        };
+        bytes.resize(length, 1);
+    }
+}
+
+/// For tags of a wrong length too there are as many generations as whole labels, or nothing else could be told.
+fn as_many_generations(random: &mut Random, scene: &mut Scene) {
+    if random.percent(80) {
+        let volumes = scene.volumes();
+        scene.tables.generations.resize(volumes, 1);
+    }
+}
+
+/// 0 or above 8, for any volume: in the library or not, the first, the last, one behind the 255th.
+fn wrong_generation(random: &mut Random, scene: &mut Scene) -> Option<()> {
+    let all: Vec<usize> = (0..scene.volumes()).collect();
+    let volume = any_of(random, &all)?;
+    let any = random.byte_between(MOST_GENERATION + 1, 255);
+    let wrong = random.pick(&[0, 0, MOST_GENERATION + 1, 16, 0x80, 255, any]);
+    scene.tables.generations[volume] = wrong;
+    Some(())
+}
+
+/// A drive does not take what stands in it, by its mask or by the volume's generation. Where all drives are empty one is filled.
+fn wrong_cartridge(random: &mut Random, scene: &mut Scene) -> Option<()> {
+    let drive = any_of(random, &scene.drives())?;
+    if scene.volume(drive) == 0 {
+        let volume = scene.absent_volume()?;
+        scene.set_volume(drive, volume);
+    }
+    let volume = scene.volume(drive);
+    if usize::from(volume) > scene.volumes() || scene.tables.masks.is_empty() {
+        return None;
+    }
+    let own = bit(scene.generation(volume));
+    let mask = *scene.mask(drive);
+    let other = random.byte_between(1, MOST_GENERATION);
+    match random.below(6) {
+        0 if mask & bit(other) == 0 => scene.set_generation(volume, other),
+        1 => *scene.mask(drive) = 0,
+        2 => *scene.mask(drive) = own << 1,
+        3 => *scene.mask(drive) = own >> 1,
+        4 => *scene.mask(drive) = !own,
+        _ => *scene.mask(drive) = mask & !own,
+    }
+    Some(())
 }
 
 fn range(scene: &Scene, range: usize) -> (usize, usize) {
@@ -146,6 +218,7 @@ fn no_elements_at_all(random: &mut Random, scene: &mut Scene) {
     if random.percent(30) {
         scene.tables.head[..16].fill(0);
         scene.tables.elements.clear();
+        scene.tables.masks.clear();
     }
 }
 

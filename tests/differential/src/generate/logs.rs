@@ -23,12 +23,13 @@ pub struct Line {
     pub parameters: Vec<u8>,
 }
 
-/// A line, the call that it records and what that call ends with.
+/// A line, the call that it records, what that call ends with, and its host's sense behind it; zeros where there is no such host.
 #[derive(Clone, Debug)]
 pub struct Recorded {
     pub line: Line,
     pub call: Call,
     pub reply: Reply,
+    pub sense: [u8; 3],
 }
 
 fn hex(bytes: &[u8]) -> Vec<u8> {
@@ -123,9 +124,19 @@ pub fn record(scene: &mut Scene, number: u32, call: Call) -> Recorded {
     let made = make(&Reference::default(), &scene.tables, &call, [0; 16]);
     scene.tables.head = made.head().to_vec();
     scene.tables.elements = made.elements().to_vec();
+    let sense = match call {
+        Call::Command {
+            host: host @ 1..=8, ..
+        } => {
+            let record = scene.host_record(host as u8);
+            [record[0], record[1], record[2]]
+        }
+        _ => [0; 3],
+    };
     Recorded {
         line: Line::of(number, &call),
         reply: made.reply(),
+        sense,
         call,
     }
 }

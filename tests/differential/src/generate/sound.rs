@@ -4,7 +4,7 @@ use reference::library::Kind;
 use reference::TableBytes;
 
 use crate::random::Random;
-use crate::scene::{Place, Scene, HEAD_LENGTH};
+use crate::scene::{bit, Place, Scene, HEAD_LENGTH, MOST_GENERATION};
 
 const LAST_ADDRESS: usize = 65_535;
 const MOST_TRANSPORTS: usize = 127;
@@ -71,6 +71,7 @@ fn scene_of(random: &mut Random, counts: Counts, likelihood: Likelihood) -> Scen
     scene.tables.blank = random.bytes(36);
     load(random, &mut scene);
     scene.recount();
+    choose_cartridges(random, &mut scene, counts[3]);
     reserve(random, &mut scene, likelihood);
     tell(random, &mut scene, likelihood);
     scene
@@ -189,6 +190,27 @@ fn load(random: &mut Random, scene: &mut Scene) {
         let Some(volume) = unused.pop() else { return };
         load_one(random, scene, place, volume);
     }
+}
+
+/// Generations of few values or of all, and masks that take all, some or nothing; but a full drive takes what stands in it.
+fn choose_cartridges(random: &mut Random, scene: &mut Scene, drives: usize) {
+    let most = random.pick(&[1, 2, MOST_GENERATION, MOST_GENERATION]);
+    let least = random.pick(&[1, 1, most]);
+    let volumes = scene.volumes();
+    scene.tables.generations = (0..volumes)
+        .map(|_| random.byte_between(least, most))
+        .collect();
+    let usual = random.pick(&[0xFF, 0xFF, 0xFF, 0x00, 0x7F]);
+    let same = random.percent(60);
+    let mask = |_| match random.below(5) {
+        _ if same => usual,
+        0 => 0x00,
+        1 => 0xFF,
+        2 => bit(random.byte_between(1, MOST_GENERATION)),
+        _ => random.byte(),
+    };
+    scene.tables.masks = (0..drives).map(mask).collect();
+    scene.admit();
 }
 
 /// The source, where there is one, is any shelf: a full one, an empty one, or the place itself.

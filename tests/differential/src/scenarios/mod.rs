@@ -1,6 +1,7 @@
 //! What a run goes through, round after round until its calls are used up.
 
 mod blocks;
+mod cartridges;
 mod cuts;
 mod events;
 mod libraries;
@@ -26,7 +27,7 @@ macro_rules! named {
     ($($family:ident::$name:ident),* $(,)?) => { [$((stringify!($name), $family::$name as Scenario)),*] };
 }
 
-const SCENARIOS: [(&str, Scenario); 41] = named![
+const SCENARIOS: [(&str, Scenario); 46] = named![
     libraries::small_library,
     libraries::plausible_calls,
     libraries::history,
@@ -37,6 +38,11 @@ const SCENARIOS: [(&str, Scenario); 41] = named![
     shelves::sources_of_each_kind,
     panel::past_255_and_back,
     panel::wrong_numbers,
+    cartridges::moves_to_drives,
+    cartridges::exchanges_by_drives,
+    cartridges::order_of_refusals,
+    cartridges::unfit_tables,
+    cartridges::imports_and_replays,
     blocks::early_steps,
     unsound::each_clause_broken,
     unsound::pairs_of_clauses_broken,

@@ -12,7 +12,8 @@ use crate::scene::Scene;
 fn scene_with(random: &mut Random, empty: usize) -> (Scene, [usize; 4]) {
     let mut scene = sound::quiet_scene_with(random, [1, empty + 2, 2, 2]);
     scene.tables.elements.fill(0);
-    scene.tables.tags = random.bytes(36 * 8);
+    scene.relabel(random.bytes(36 * 8));
+    scene.take_all();
     let mut shelves = scene.places_where(|kind, _| kind == Kind::Storage);
     random.shuffle(&mut shelves);
     let of = |kind: Kind| scene.places_where(|found, _| found == kind)[0];

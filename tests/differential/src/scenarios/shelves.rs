@@ -16,7 +16,8 @@ fn empty_scene(random: &mut Random) -> Scene {
     let mut scene = sound::quiet_scene_with(random, counts);
     scene.tables.elements.fill(0);
     scene.recount();
-    scene.tables.tags = random.bytes(36 * 8);
+    scene.relabel(random.bytes(36 * 8));
+    scene.take_all();
     scene
 }
 

@@ -35,12 +35,16 @@ pub(super) fn one_bit_of_the_tables_flipped(harness: &mut Harness, random: &mut 
     for _ in 0..60 {
         let mut scene = sound::scene(random);
         let call = calls::plausible(random, &scene);
-        let table = match random.percent(50) {
-            true => &mut scene.tables.head,
-            false => &mut scene.tables.elements,
+        let table = match random.below(8) {
+            0..=2 => &mut scene.tables.head,
+            3..=5 => &mut scene.tables.elements,
+            6 => &mut scene.tables.generations,
+            _ => &mut scene.tables.masks,
         };
         let at = random.below(table.len());
-        table[at] ^= 1 << random.below(8);
+        if let Some(byte) = table.get_mut(at) {
+            *byte ^= 1 << random.below(8);
+        }
         if random.percent(50) {
             scene.recount();
         }

@@ -89,6 +89,9 @@ pub fn line_outcomes(recorded: &Recorded) -> Vec<Outcome> {
         Call::Command { block, .. } => {
             if let Some(first) = First::of(block).filter(|_| number == 0) {
                 reached.push(Outcome::LineStatus(first, status));
+                if status == 0x02 && recorded.sense == [5, 0x30, 0x12] {
+                    reached.push(Outcome::LineNotTaken(first));
+                }
                 if count > 0 {
                     reached.push(Outcome::LineAnswered(first));
                 }

@@ -1,0 +1,42 @@
+-- The generations, one after the other: those before i are 1 to 8, or not. Assumes nothing.
+use Prim.Native.Nat.{ℕ, _+_, _≤_}
+use native.Mathlib.Omega.{arith}
+use mathlib.Core.Path.{_≡_, refl, _∙_}
+use mathlib.Core.Bool.{Bool, true, false}
+use mathlib.Core.List.{List}
+use lib.ListN.{length, getD}
+use Rattle.rules.specs.Choice.{when, below}
+use Rattle.rules.specs.Bytes.{byte}
+use Rattle.rules.specs.Tables.{mostGenerations}
+use Rattle.rules.specs.Sound.{within, generationsSound}
+use Rattle.rules.proofs.Ladder.{below-step}
+use Rattle.sound_head.proofs.Tests.{all-eq-go, all-last}
+
+abbrev one : List ℕ → ℕ → Bool
+one gs i = within 1 mostGenerations (byte gs i)
+
+pub record Gathered (gs : List ℕ) (fine : Bool) (i : ℕ) : Type 0 where
+  pub far : i ≤ length gs
+  pub so-far : fine ≡ below i (one gs)
+
+module _ (gs : List ℕ) where
+  pub gather-begins : Gathered gs true 0
+  unfolding below
+  gather-begins = record { far = omega arith; so-far = refl }
+
+  module _ (fine : Bool) (i : ℕ) (at : Gathered gs fine i) where
+    pub gather-on : i + 1 ≤ length gs → (b : Bool) → b ≡ when (within 1 mostGenerations (getD gs i 0)) fine false → Gathered gs b (i + 1)
+    unfolding byte
+    gather-on h b w = record { far = h; so-far = w ∙ rw (at .so-far, below-step i (one gs)) }
+
+    pub gather-ends : length gs ≤ i → fine ≡ below (length gs) (one gs)
+    gather-ends h = let l = at .far in let e : i ≡ length gs = omega arith in rw (← e) (at .so-far)
+
+-- as many as there are volumes
+pub generations-by : (top : ℕ) (gs : List ℕ) → length gs ≡ top → (b : Bool) → b ≡ below (length gs) (one gs) → b ≡ generationsSound top gs
+unfolding generationsSound
+generations-by top gs e b w = all-eq-go _ _ _ _ e (all-last _ _ (rw e at w))
+
+-- by the number that the code counted
+pub top-by : (top n : ℕ) (gs : List ℕ) → n ≡ top → (b : Bool) → b ≡ generationsSound n gs → b ≡ generationsSound top gs
+top-by top n gs e b w = rw e at w
