@@ -33,20 +33,18 @@ fn labels_sound(tags: &[u8], blank: &[u8]) -> bool
     true
 }
 
-// "generation 1 to 8", after others that were all so, or not.
+// "generation 1 to 8", after others that were all so, or not. 0 wraps round to 255, so that one test tells of both ends.
 fn still_within(fine: bool, generation: u8) -> bool
     ensures { λ r. ⌜ r ≡ when (within 1 mostGenerations generation) fine false ⌝ }
 {
-    if generation < 1 {
-        return false;
-    }
-    if generation > layout::MOST_GENERATIONS {
+    let from_first = std::num::wrapping_sub_u8(generation, 1);
+    if from_first >= layout::MOST_GENERATIONS {
         return false;
     }
     fine
 }
 
-// Each is 1 to 8. This goes over up to 512 bytes at every call: the loop has no way out before its end, so that the compiler takes many bytes at a time.
+// Each is 1 to 8. This goes over up to 512 bytes at every call: with one test a byte, and no way out before the end, the compiler takes 16 bytes at a time.
 fn all_within(generations: &[u8]) -> bool
     ensures { λ r. ⌜ r ≡ below (length (now (generations .entry))) (λ i. within 1 mostGenerations (byte (now (generations .entry)) i)) ⌝ }
 {
