@@ -1,12 +1,11 @@
 -- The elements of the runs: how many they are, and of which type each is. Assumes nothing.
 use Prim.Native.Nat.{ℕ, zero, suc, _+_, _-_, _<_, _≤_}
 use native.Mathlib.Nat.{not-suc-le-zero}
-use native.Mathlib.Numerals.{add-one}
 use native.Mathlib.Omega.{arith}
 use mathlib.Core.Path.{_≡_, refl, sym, _∙_}
 use mathlib.Core.Bool.{Bool, true, false}
 use mathlib.Core.List.{List, [], _∷_, _++_}
-use lib.ListN.{length, getD, drop}
+use lib.ListN.{length, getD}
 use lib.Dec.{eqb, ltb}
 use borrow.Author.Tests.{ltb-true, ltb-false, eq-eqb, ne-eqb}
 use Rattle.rules.specs.Choice.{when, allOf, differ}
@@ -16,7 +15,7 @@ use Rattle.rules.proofs.Ladder.{ne-differ, test-is}
 use Rattle.rules.specs.Roster.{Range, Slot, range, slots, spread, roster, kindAt, firstTransport, transport}
 use Rattle.tables.specs.declared.Range.{Range as Code}
 use Rattle.tables.specs.Ranges.{meaning, meant, laid, leads, Runs}
-use Rattle.tables.proofs.Sort.{none, on-four, meant-from, meant-end}
+use Rattle.tables.proofs.Sort.{none, on-four}
 
 -- the runs of a head's table make its roster
 pub runs-laid : (runs : List Code) (head : List ℕ) → Runs runs head → laid runs ≡ roster head
@@ -112,25 +111,15 @@ lead-is (r ∷ rs) q = go (eqb (r .kind) transport) refl (lead-is rs (q + r .cou
         same false = refl
     go false t ih = lead-past (r .count) (r .kind) (r .first) q (spread (q + r .count) rs) t ∙ ih
 
--- the turns of the loop over the runs: those before k hold none
-pub record Leading (runs : List Code) (k : ℕ) : Type 0 where
-  pub far : k ≤ 4
-  pub rest : firstTransport (laid runs) ≡ lead (drop k (meant runs))
+-- the code's tests, in their order
+abbrev leadFour : List Code → ℕ
+leadFour l =
+    let r : ℕ → Code = λ k. getD l k none in
+    when (leads (meaning (r 0))) (r 0 .first)
+    (when (leads (meaning (r 1))) (r 1 .first)
+    (when (leads (meaning (r 2))) (r 2 .first) (when (leads (meaning (r 3))) (r 3 .first) 0)))
 
-pub lead-begins : (runs : List Code) → Leading runs 0
-unfolding laid
-lead-begins runs = record { far = omega arith; rest = lead-is (meant runs) 0 }
-
-module _ (runs : List Code) (four : length runs ≡ 4) (k : ℕ) (at : Leading runs k) where
-  module _ (h : k < 4) (b : Bool) (is : b ≡ leads (meaning (getD runs k none))) where
-    pub lead-found : b ≡ true → getD runs k none .first ≡ firstTransport (laid runs)
-    unfolding lead when
-    lead-found t = sym (at .rest ∙ rw (meant-from runs k four h, sym is ∙ t))
-
-    pub lead-on : b ≡ false → Leading runs (k + 1)
-    unfolding lead when
-    lead-on t = record { far = omega arith; rest = at .rest ∙ rw (meant-from runs k four h, sym is ∙ t, add-one) }
-
-  pub lead-none : 4 ≤ k → 0 ≡ firstTransport (laid runs)
-  unfolding lead
-  lead-none h = sym (at .rest ∙ rw (meant-end runs k four h))
+pub lead-by : (runs : List Code) → length runs ≡ 4 → (z : ℕ) → z ≡ leadFour runs → z ≡ firstTransport (laid runs)
+unfolding laid meant lead
+lead-by runs four z e =
+    e ∙ on-four (λ (l : List Code). leadFour l ≡ lead (meant l)) runs four (λ x y v w. refl) ∙ sym (lead-is (meant runs) 0)

@@ -21,9 +21,12 @@ admits Port k = eqb k port
 unfoldable pub found : Types → List Slot → ℕ → Found
 found ts ss a = when (admits ts (kindOf ss a)) (At (placeOf ss a)) Nothing
 
+abbrev pub spot : ℕ → ℕ → Spot
+spot k p = record { kind = k; place = p }
+
 -- type and place of an address: 0 and the number of elements where it is no element's
 unfoldable pub spotOf : List Slot → ℕ → Spot
-spotOf ss a = record { kind = kindOf ss a; place = placeOf ss a }
+spotOf ss a = spot (kindOf ss a) (placeOf ss a)
 
 -- by cases on a look-up's answer
 unfoldable pub onFound : {A : Type 0} → Found → (ℕ → A) → A → A

@@ -5,13 +5,14 @@ pub mod head;
 pub mod mask;
 
 ghost use mathlib.Core.Path.{_≡_};
-ghost use Prim.Native.Nat.{_+_, _≤_, _<_};
+ghost use Prim.Native.Nat.{_+_, _-_, _≤_, _<_};
+ghost use mathlib.Core.Bool.{true};
 ghost use lib.ListN.{length};
 ghost use Rattle.rules.specs.Choice.{when};
 ghost use Rattle.rules.specs.Tables.{headSize, volumes as volumesOf};
 ghost use Rattle.rules.specs.Roster.{range, ranges as rangesOf, sorted as sortedOf, firstTransport};
 ghost use Rattle.tables.specs.Ranges.{meaning, meant, laid, inserted, lies, leads, Runs};
-ghost use Rattle.tables.specs.LookUp.{admits, found, spotOf};
+ghost use Rattle.tables.specs.LookUp.{admits, found, spot, spotOf};
 
 // "each first address and count": of one type
 pub struct Range {
@@ -144,41 +145,56 @@ pub fn total(runs: [Range; 4]) -> usize
     (a.count as usize) + (b.count as usize) + (c.count as usize) + (d.count as usize)
 }
 
-// An address lies in a range.
+// An address lies in a range. What it is behind the first one wraps where it is before it, and is then more than any count: one test does for both ends.
 pub fn lies_in(r: Range, address: u32) -> bool
     ensures { λ b. ⌜ b ≡ lies (meaning r) address ⌝ }
 {
     let first = r.first as u32;
-    if address < first {
-        return false;
-    }
-    if address >= first + (r.count as u32) {
-        return false;
-    }
-    true
+    let count = r.count as u32;
+    let within = std::num::wrapping_sub_u32(address, first);
+    within < count
 }
 
-// Type and place of an address: those of the first run in which it lies; type 0, behind the last place, where it lies in none.
+// The element at an address that lies in a run, behind the places that are passed.
+fn spot_in(r: Range, address: u32, passed: usize) -> Spot
+    requires { ⌜ lies (meaning r) address ≡ true ⌝ }
+    requires { ⌜ passed ≤ 196605 ⌝ }
+    ensures { λ s. ⌜ s ≡ spot (r .kind) (passed + (address - r .first)) ⌝ }
+{
+    let within = address - (r.first as u32);
+    Spot {
+        kind: r.kind,
+        place: passed + (within as usize),
+    }
+}
+
+// Type and place of an address: those of the first run in which it lies; type 0, behind the last place, where it lies in none. Every index is a plain
+// number, here and in `first_transport`: see `insert_third`.
 pub fn spot_of(runs: [Range; 4], address: u32) -> Spot
     ensures { λ r. ⌜ r ≡ spotOf (laid runs) address ⌝ }
 {
-    let mut passed: usize = 0;
-    let mut k: usize = 0;
-    while k < 4 {
-        let r = runs[k];
-        if lies_in(r, address) {
-            let within = address - (r.first as u32);
-            return Spot {
-                kind: r.kind,
-                place: passed + (within as usize),
-            };
-        }
-        passed += r.count as usize;
-        k += 1;
+    let a = runs[0];
+    if lies_in(a, address) {
+        return spot_in(a, address, 0);
+    }
+    let one = a.count as usize;
+    let b = runs[1];
+    if lies_in(b, address) {
+        return spot_in(b, address, one);
+    }
+    let two = one + (b.count as usize);
+    let c = runs[2];
+    if lies_in(c, address) {
+        return spot_in(c, address, two);
+    }
+    let three = two + (c.count as usize);
+    let d = runs[3];
+    if lies_in(d, address) {
+        return spot_in(d, address, three);
     }
     Spot {
         kind: 0,
-        place: passed,
+        place: three + (d.count as usize),
     }
 }
 
@@ -225,13 +241,21 @@ fn leads(r: Range) -> bool
 pub fn first_transport(runs: [Range; 4]) -> u16
     ensures { λ r. ⌜ r ≡ firstTransport (laid runs) ⌝ }
 {
-    let mut k: usize = 0;
-    while k < 4 {
-        let r = runs[k];
-        if leads(r) {
-            return r.first;
-        }
-        k += 1;
+    let a = runs[0];
+    if leads(a) {
+        return a.first;
+    }
+    let b = runs[1];
+    if leads(b) {
+        return b.first;
+    }
+    let c = runs[2];
+    if leads(c) {
+        return c.first;
+    }
+    let d = runs[3];
+    if leads(d) {
+        return d.first;
     }
     0
 }

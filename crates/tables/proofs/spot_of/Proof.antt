@@ -1,81 +1,118 @@
--- `tables::spot_of`: at the loop's head the first k runs are passed. Assumes nothing.
-use Prim.Native.Nat.{_-_}
-use native.Mathlib.Omega.{arith}
+-- `tables::spot_of` meets its contract. Assumes nothing.
 use mathlib.Core.Path.{sym, _∙_}
+use Rattle.rules.proofs.Ladder.{yes, no, ladder}
 use borrow.Author.Needs.{needs}
-use Rattle.tables.proofs.Spots.{Seeking, lies-from, seek-begins, seek-here, seek-on, seek-ends}
+use Rattle.tables.proofs.Spots.{spot-by}
 use Rattle.tables.proofs.spot_of.Statement.{statement}
 use Rattle.tables.proofs.spot_of.Tie as tie
 
-abbrev Inv-loop : tie.InvT-loop
-Inv-loop address runs passed₀ k₀ passed k = Seeking runs address passed k
+array-copy-out-a : tie.Need-array-copy-out-a
+array-copy-out-a c = search needs
 
-abbrev μ-loop : tie.MeasureT-loop
-μ-loop address runs passed₀ k₀ passed k = 4 - k
-
-loop-holds : tie.Need-loop-holds Inv-loop μ-loop
-loop-holds c = seek-begins _ _
-
-mul-r : tie.Need-mul-r Inv-loop μ-loop
-mul-r c = search needs
-
-array-copy-out-r : tie.Need-array-copy-out-r Inv-loop μ-loop
-array-copy-out-r c = search needs
-
-lies-in-requires : tie.Need-lies-in-requires Inv-loop μ-loop
+lies-in-requires : tie.Need-lies-in-requires
 lies-in-requires c κs = search needs
 
-cast-within : tie.Need-cast-within Inv-loop μ-loop
-cast-within c = search needs
+spot-in-requires : tie.Need-spot-in-requires
+spot-in-requires c κs = (sym (c .before .lies-in .ensures) ∙ c .if1 .taken, search needs)
 
-sub-within : tie.Need-sub-within Inv-loop μ-loop
-sub-within c = lies-from _ _ (sym (c .before .before .lies-in .ensures) ∙ c .before .if1 .taken) .0
+returns : tie.Need-returns
+returns c = spot-by _ (search needs) _ _ (c .spot-in .ensures ∙ search ladder depth 10)
 
-cast-t15 : tie.Need-cast-t15 Inv-loop μ-loop
-cast-t15 c = search needs
+cast-one : tie.Need-cast-one
+cast-one c = search needs
 
-add-t16 : tie.Need-add-t16 Inv-loop μ-loop
-add-t16 c = let l = lies-from _ _ (sym (c .before .before .lies-in .ensures) ∙ c .before .if1 .taken) in omega arith
+array-copy-out-b : tie.Need-array-copy-out-b
+array-copy-out-b c = search needs
 
-returns : tie.Need-returns Inv-loop μ-loop
-returns c = seek-here _ (search needs) _ _ _ (c .before .before .before .before .before .loop .inv) (search needs) _ (c .before .before .lies-in .ensures) (c .before .if1 .taken)
+lies-in-requires-2 : tie.Need-lies-in-requires-2
+lies-in-requires-2 c κs = search needs
 
-cast-passed : tie.Need-cast-passed Inv-loop μ-loop
-cast-passed c = search needs
+spot-in-requires-2 : tie.Need-spot-in-requires-2
+spot-in-requires-2 c κs = (sym (c .before .lies-in2 .ensures) ∙ c .if2 .taken, search needs)
 
-add-passed : tie.Need-add-passed Inv-loop μ-loop
-add-passed c = search needs
+returns-2 : tie.Need-returns-2
+returns-2 c = spot-by _ (search needs) _ _ (c .spot-in2 .ensures ∙ search ladder depth 10)
 
-add-k : tie.Need-add-k Inv-loop μ-loop
-add-k c = search needs
+cast-two : tie.Need-cast-two
+cast-two c = search needs
 
-loop-less : tie.Need-loop-less Inv-loop μ-loop
-loop-less c = search needs
+add-two : tie.Need-add-two
+add-two c = search needs
 
-loop-again : tie.Need-loop-again Inv-loop μ-loop
-loop-again c = seek-on _ (search needs) _ _ _ (c .before .before .before .before .before .loop .inv) (search needs) _ (c .before .before .lies-in .ensures) (c .before .if1 .left) (search needs)
+array-copy-out-c : tie.Need-array-copy-out-c
+array-copy-out-c c = search needs
 
-returns-2 : tie.Need-returns-2 Inv-loop μ-loop
-returns-2 c = seek-ends _ (search needs) _ _ _ (c .before .loop .inv) (c .loop-test .left)
+lies-in-requires-3 : tie.Need-lies-in-requires-3
+lies-in-requires-3 c κs = search needs
+
+spot-in-requires-3 : tie.Need-spot-in-requires-3
+spot-in-requires-3 c κs = (sym (c .before .lies-in3 .ensures) ∙ c .if3 .taken, search needs)
+
+returns-3 : tie.Need-returns-3
+returns-3 c = spot-by _ (search needs) _ _ (c .spot-in3 .ensures ∙ search ladder depth 10)
+
+cast-three : tie.Need-cast-three
+cast-three c = search needs
+
+add-three : tie.Need-add-three
+add-three c = search needs
+
+array-copy-out-d : tie.Need-array-copy-out-d
+array-copy-out-d c = search needs
+
+lies-in-requires-4 : tie.Need-lies-in-requires-4
+lies-in-requires-4 c κs = search needs
+
+spot-in-requires-4 : tie.Need-spot-in-requires-4
+spot-in-requires-4 c κs = (sym (c .before .lies-in4 .ensures) ∙ c .if4 .taken, search needs)
+
+returns-4 : tie.Need-returns-4
+returns-4 c =
+    let here = c .before in
+    let asked = here .before in
+    let no3 = asked .before .before .before in
+    let no2 = no3 .before .before .before .before in
+    let no1 = no2 .before .before .before .before in
+    let start = no1 .before .before .before in
+    let fourth = yes _ _ _ _ _ (asked .lies-in4 .ensures) (here .if4 .taken) (c .spot-in4 .ensures) in
+    let third = no _ _ _ _ _ (no3 .before .lies-in3 .ensures) (no3 .if3 .left) fourth in
+    let second = no _ _ _ _ _ (no2 .before .lies-in2 .ensures) (no2 .if2 .left) third in
+    spot-by _ (search (needs, start .good)) _ _ (no _ _ _ _ _ (no1 .before .lies-in .ensures) (no1 .if1 .left) second)
+
+cast-t18 : tie.Need-cast-t18
+cast-t18 c = search needs
+
+add-t25 : tie.Need-add-t25
+add-t25 c = search needs
+
+returns-5 : tie.Need-returns-5
+returns-5 c = spot-by _ (search needs) _ _ (search ladder depth 10)
 
 pub spot-of-spec : {M : Type 1} → statement M
 spot-of-spec =
     tie.close
     (tie.spec
-    Inv-loop
-    μ-loop
-    loop-holds
-    mul-r
-    array-copy-out-r
+    array-copy-out-a
     lies-in-requires
-    cast-within
-    sub-within
-    cast-t15
-    add-t16
+    spot-in-requires
     returns
-    cast-passed
-    add-passed
-    add-k
-    loop-less
-    loop-again
-    returns-2)
+    cast-one
+    array-copy-out-b
+    lies-in-requires-2
+    spot-in-requires-2
+    returns-2
+    cast-two
+    add-two
+    array-copy-out-c
+    lies-in-requires-3
+    spot-in-requires-3
+    returns-3
+    cast-three
+    add-three
+    array-copy-out-d
+    lies-in-requires-4
+    spot-in-requires-4
+    returns-4
+    cast-t18
+    add-t25
+    returns-5)
