@@ -248,6 +248,10 @@ smc_reply smc_release(SMC_TABLES, SMC_COMMAND);
 /* With GOOD the host's bit of the prevent mask is set or cleared. A set bit hinders import and export, and never a move. */
 smc_reply smc_prevent_allow(SMC_TABLES, SMC_COMMAND);
 
+/* Bytes 2-3 of the block of MOVE and of EXCHANGE name the transport. 0 means the lowest-addressed one that no other host holds, so that a library with
+ * several arms does not stall because one is reserved; where other hosts hold them all, RESERVATION CONFLICT, once the addresses are known to be right. A transport that is
+ * named by its address is used, or is the conflict, even if another is free. */
+
 /* With GOOD one volume has gone from source to destination. If it left a storage element, that one is named as its source from now on; if it
  * left a drive or an import/export element, it keeps the source that it had, none included. The number of empty storage elements in the head
  * goes with it. Any other end moves nothing. A drive that does not take the volume's generation is CHECK CONDITION with 5/30/12, once the source is

@@ -513,6 +513,44 @@ static void unfit_tables(void)
     }
 }
 
+/* ---- Document 02, Seven: two arms, 0001h and 0002h, and shelves 1000h and 1001h with volume 1 in the first. */
+static void any_free_arm(void)
+{
+    static uint8_t arms_head[SMC_HEAD_SIZE], arms[4 * SMC_ELEMENT_SIZE];
+    static const uint8_t ranges[16] = {0, 1, 0, 2, 0x10, 0, 0, 2}, wrong[12] = {0xA5, 0, 0, 0, 0x10, 0, 0x10, 2};
+    static const smc_tables two_arms = {
+        .head = arms_head, .head_len = sizeof arms_head, .elements = arms, .elements_len = sizeof arms, .tags = tags_room + GUARD, .tags_len = 3 * SMC_TAG_SIZE,
+        .blank = blank_room + GUARD, .blank_len = SMC_TAG_SIZE, .generations = generations_room + GUARD, .generations_len = 3};
+    /* The holders of the arms, the arm that host 1 names, and the status. */
+    static const struct {
+        uint8_t one, two, named, status;
+    } rows[] = {{0, 0, 0, SMC_GOOD}, {1, 0, 0, SMC_GOOD}, {1, 1, 0, SMC_GOOD}, {2, 0, 0, SMC_GOOD}, {2, 1, 0, SMC_GOOD}, {0, 2, 0, SMC_GOOD}, {1, 3, 0, SMC_GOOD},
+                {2, 2, 0, SMC_RESERVATION_CONFLICT}, {2, 8, 0, SMC_RESERVATION_CONFLICT}, {2, 0, 1, SMC_RESERVATION_CONFLICT}, {0, 2, 2, SMC_RESERVATION_CONFLICT},
+                {2, 0, 2, SMC_GOOD}, {0, 2, 1, SMC_GOOD}, {2, 0, 3, SMC_CHECK_CONDITION}};
+    small_library();
+    for (size_t i = 0; i < 2 * (sizeof rows / sizeof *rows); i++) {
+        const size_t row = i / 2;
+        const int swap = i % 2;
+        const uint8_t block[12] = {swap ? 0xA6 : 0xA5, 0, 0, rows[row].named, 0x10, 0, 0x10, 1, swap ? 0x10 : 0, 0};
+        memset(arms_head, 0, sizeof arms_head);
+        memset(arms, 0, sizeof arms);
+        memcpy(arms_head, ranges, sizeof ranges);
+        put16(arms_head + SMC_HEAD_FREE, swap ? 0 : 1);
+        arms[SMC_ELEMENT_HOLDER] = rows[row].one;
+        arms[SMC_ELEMENT_SIZE + SMC_ELEMENT_HOLDER] = rows[row].two;
+        put16(arms + 2 * SMC_ELEMENT_SIZE, 1);
+        put16(arms + 3 * SMC_ELEMENT_SIZE, swap ? 2 : 0);
+        remember();
+        ended("any free arm", smc_command(SMC_LEND(&two_arms), 1, block, 12, NULL, 0, answer, 512), rows[row].status, 0);
+        expect((arms[3 * SMC_ELEMENT_SIZE + 1] == 1) == (rows[row].status == SMC_GOOD), "any free arm", "another volume on the shelf");
+        expect(arms[SMC_ELEMENT_HOLDER] == rows[row].one && arms[SMC_ELEMENT_SIZE + SMC_ELEMENT_HOLDER] == rows[row].two, "any free arm", "another holder");
+        if (rows[row].status == SMC_RESERVATION_CONFLICT && rows[row].named == 0) {
+            ended("the address first", smc_command(SMC_LEND(&two_arms), 1, wrong, 12, NULL, 0, answer, 512), SMC_CHECK_CONDITION, 0);
+            expect(arms_head[SMC_HOST_AT(1) + SMC_HOST_ASC] == 0x21, "the address first", "another sense");
+        }
+    }
+}
+
 static void reservations(void)
 {
     static const uint8_t hold[6] = {0x16, 1, 5, 0, 6, 0}, list[6] = {0, 0, 0, 2, 0x10, 0x01}, release[6] = {0x17, 1, 5, 0, 0, 0};
@@ -728,6 +766,7 @@ int main(void)
     cartridges();
     order_of_cartridges();
     unfit_tables();
+    any_free_arm();
     reservations();
     events();
     replays();

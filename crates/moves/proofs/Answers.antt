@@ -22,13 +22,15 @@ use Rattle.tables.specs.declared.Found.{Found}
 use Rattle.tables.specs.declared.Found.the-variants.{At}
 use Rattle.tables.specs.LookUp.{found, spotOf}
 use Rattle.tables.proofs.LookUp.{found-by, at-yes, at-no, at-below}
-use Rattle.moves.specs.Judged.{armAt, exchangeAt, Within, wrong, onPlace, unfitAt, shelf}
+use Rattle.arms.specs.Used.{armAt}
+use Rattle.moves.specs.Judged.{exchangeAt, Within, wrong, onPlace, unfitAt, shelf}
 use Rattle.moves.specs.declared.Ruling.{Ruling}
 use Rattle.moves.specs.declared.Ruling.the-variants.{Move, Exchange}
 
 -- a call's argument that is itself a call's result
-pub arm-by : (f : Found) (ss : List Slot) (x y : ℕ) → f ≡ found Transport ss (armAt ss x) → x ≡ y → f ≡ found Transport ss (armAt ss y)
-arm-by f ss x y e q = found-by f Transport ss (armAt ss x) (armAt ss y) e (ap (armAt ss) q)
+pub arm-by : (f : Found) (ss : List Slot) (es : List ℕ) (h x y : ℕ) → f ≡ found Transport ss (armAt ss es h x) → x ≡ y
+    → f ≡ found Transport ss (armAt ss es h y)
+arm-by f ss es h x y e q = found-by f Transport ss (armAt ss es h x) (armAt ss es h y) e (ap (armAt ss es h) q)
 
 -- a place that is told has a record
 pub at-record : (ts : Types) (ss : List Slot) (a n p : ℕ) (f : Found) → length ss ≡ n → f ≡ found ts ss a → f ≡ At p → p < n

@@ -15,7 +15,8 @@ use Rattle.order.specs.declared.Cause.{Cause}
 use Rattle.order.specs.Ending.{reason}
 use Rattle.tables.proofs.LookUp.{found-cases, no-transport-is}
 use Rattle.tables.specs.LookUp.{spotOf}
-use Rattle.moves.specs.Judged.{armAt, shelfAt, meaning, onPlace, moveAt, exchangeHeld, hinders, exchangeAt, moveBy, exchangeSpots, exchangeBy, unfitAt, fitted}
+use Rattle.arms.specs.Used.{armAt}
+use Rattle.moves.specs.Judged.{shelfAt, meaning, onPlace, moveAt, exchangeHeld, hinders, exchangeAt, moveBy, exchangeSpots, exchangeBy, unfitAt, fitted}
 use Rattle.moves.specs.declared.Ruling.{Ruling}
 use Rattle.moves.specs.declared.Ruling.the-variants.{Move, Exchange, Refused, Conflict}
 

@@ -8,7 +8,7 @@ use lib.Dec.{eqb, leb}
 use Rattle.rules.specs.Choice.{when, anyOf, allOf, differ}
 use Rattle.rules.specs.Bytes.{byte, word}
 use Rattle.rules.specs.Tables.{headSize, elementSize, mostElements, places, holder, volume, source, panel, emptyShelves, filled, Fill, Recount}
-use Rattle.rules.specs.Roster.{Slot, range, roster, kindOf, firstTransport, transport, storage, drive}
+use Rattle.rules.specs.Roster.{Slot, range, roster, kindOf, transport, storage, drive}
 use Rattle.rules.specs.Order.{Verdict, refused, conflict, good, other}
 use Rattle.rules.specs.Fitting.{accepts}
 use Rattle.order.specs.declared.Cause.the-variants.{WrongAddress, SourceEmpty, DestinationFull, IncompatibleMedium}
@@ -18,12 +18,9 @@ use Rattle.tables.specs.declared.Spot.{Spot}
 use Rattle.tables.specs.declared.Types.the-variants.{Transport}
 use Rattle.tables.specs.Ranges.{Runs}
 use Rattle.tables.specs.LookUp.{found, onFound, spotOf}
+use Rattle.arms.specs.Used.{armAt}
 use Rattle.moves.specs.declared.Ruling.{Ruling}
 use Rattle.moves.specs.declared.Ruling.the-variants.{Move, Exchange, Refused, Conflict}
-
--- "Transport 0 means the lowest-addressed one": the address of the transport used
-unfoldable pub armAt : List Slot → ℕ → ℕ
-armAt ss a = when (eqb a 0) (firstTransport ss) a
 
 -- "a volume leaving a storage element takes that address; leaving any other, it keeps the source it had, none included": of the volume at
 -- an address, by the type and place there
@@ -90,7 +87,7 @@ onPlace ss a f = when (leb (kindOf ss a) transport) wrong (f (spotOf ss a))
 
 unfoldable pub moveBy : List Slot → List ℕ → ℕ → List ℕ → Ruling
 moveBy ss elements h block =
-    onFound (found Transport ss (armAt ss (word block 2)))
+    onFound (found Transport ss (armAt ss elements h (word block 2)))
     (λ arm. onPlace ss (word block 4) (λ p. onPlace ss (word block 6) (λ q. moveAt elements h arm p q))) wrong
 
 -- the three places of an exchange
@@ -103,7 +100,7 @@ exchangeSpots ss elements h block arm =
 
 unfoldable pub exchangeBy : List Slot → List ℕ → ℕ → List ℕ → Ruling
 exchangeBy ss elements h block =
-    onFound (found Transport ss (armAt ss (word block 2))) (λ arm. exchangeSpots ss elements h block arm) wrong
+    onFound (found Transport ss (armAt ss elements h (word block 2))) (λ arm. exchangeSpots ss elements h block arm) wrong
 
 -- ---- "The new refusal stands after step 8"
 

@@ -4,19 +4,16 @@ use order::Reply;
 use tables::Found;
 use tables::Range;
 use tables::Spot;
-use tables::Types;
 ghost use mathlib.Core.Path.{_≡_};
 ghost use mathlib.Core.List.{List};
 ghost use Prim.Native.Nat.{ℕ, _+_, _-_, _<_, _≤_};
 ghost use lib.ListN.{length};
-ghost use Rattle.rules.specs.Tables.{headSize, mostElements, hosts, places, holder, panel, shown, lent, Rest};
-ghost use Rattle.rules.specs.Order.{other, outcome};
+ghost use Rattle.rules.specs.Tables.{headSize, mostElements, hosts, places, panel, shown, lent, Rest};
+ghost use Rattle.rules.specs.Order.{outcome};
 ghost use Rattle.rules.specs.Moves.{move as moveVerdict, exchange as exchangeVerdict};
 ghost use Rattle.order.specs.Ending.{ended};
 ghost use Rattle.tables.specs.Ranges.{laid};
-ghost use Rattle.tables.specs.LookUp.{found};
-ghost use Rattle.tables.specs.declared.Types.the-variants.{Transport};
-ghost use Rattle.moves.specs.Judged.{armAt, shelfAt, meaning, Within, moveAt, exchangeHeld, hinders, exchangeAt, moveBy, exchangeSpots, exchangeBy, unfitAt, fitted, shifted, carried, swapped, shelf, Able, Ready};
+ghost use Rattle.moves.specs.Judged.{shelfAt, meaning, Within, moveAt, exchangeHeld, hinders, exchangeAt, moveBy, exchangeSpots, exchangeBy, unfitAt, fitted, shifted, carried, swapped, shelf, Able, Ready};
 
 // Where the range of the drives stands in the head: "in the order transport, storage, import/export, drive"
 const DRIVES: usize = 3 * layout::RANGE_SIZE;
@@ -39,24 +36,6 @@ pub enum Ruling {
     Conflict,
 }
 
-// "Transport 0 means the lowest-addressed one; any other must be a transport": where it stands.
-fn arm_of(runs: [Range; 4], address: u16) -> Found
-    ensures { λ r. ⌜ r ≡ found Transport (laid runs) (armAt (laid runs) address) ⌝ }
-{
-    if address == 0 {
-        return tables::find(runs, tables::first_transport(runs) as u32, Types::Transport);
-    }
-    tables::find(runs, address as u32, Types::Transport)
-}
-
-// The element at a place is held by another host.
-fn place_held(elements: &[u8], host: u8, place: usize) -> bool
-    requires { ⌜ place < places (now elements) ⌝ }
-    ensures { λ r. ⌜ r ≡ other host (holder (now (elements .entry)) place) ⌝ }
-{
-    order::other(host, tables::element::holder(elements, place))
-}
-
 // MOVE, steps 6 to 8: the transport's place, the source, the destination.
 fn move_at(elements: &[u8], host: u8, arm: usize, from: Spot, to: Spot) -> Ruling
     requires { ⌜ arm < places (now elements) ⌝ }
@@ -65,13 +44,13 @@ fn move_at(elements: &[u8], host: u8, arm: usize, from: Spot, to: Spot) -> Rulin
     ensures { λ r. ⌜ r ≡ moveAt (now (elements .entry)) host arm from to ⌝ }
     ensures { λ r. ⌜ Within (places (now (elements .entry))) r ⌝ }
 {
-    if place_held(elements, host, arm) {
+    if arms::place_held(elements, host, arm) {
         return Ruling::Conflict;
     }
-    if place_held(elements, host, from.place) {
+    if arms::place_held(elements, host, from.place) {
         return Ruling::Conflict;
     }
-    if place_held(elements, host, to.place) {
+    if arms::place_held(elements, host, to.place) {
         return Ruling::Conflict;
     }
     let volume = tables::element::volume(elements, from.place);
@@ -91,7 +70,7 @@ fn judge_move(runs: [Range; 4], elements: &[u8], host: u8, block: &[u8]) -> Ruli
     ensures { λ r. ⌜ r ≡ moveBy (laid runs) (now (elements .entry)) host (now (block .entry)) ⌝ }
     ensures { λ r. ⌜ Within (places (now (elements .entry))) r ⌝ }
 {
-    let Found::At(arm) = arm_of(runs, wire::word_at(block, 2)) else {
+    let Found::At(arm) = arms::arm_of(runs, elements, host, wire::word_at(block, 2)) else {
         return Ruling::Refused(Cause::WrongAddress);
     };
     let from = tables::spot_of(runs, wire::word_at(block, 4) as u32);
@@ -120,16 +99,16 @@ fn exchange_held(
     requires { ⌜ second < places (now elements) ⌝ }
     ensures { λ r. ⌜ r ≡ exchangeHeld (now (elements .entry)) host arm from first second ⌝ }
 {
-    if place_held(elements, host, arm) {
+    if arms::place_held(elements, host, arm) {
         return true;
     }
-    if place_held(elements, host, from) {
+    if arms::place_held(elements, host, from) {
         return true;
     }
-    if place_held(elements, host, first) {
+    if arms::place_held(elements, host, first) {
         return true;
     }
-    place_held(elements, host, second)
+    arms::place_held(elements, host, second)
 }
 
 // EXCHANGE, step 8: the second destination is full, and not the source.
@@ -219,7 +198,7 @@ fn judge_exchange(runs: [Range; 4], elements: &[u8], host: u8, block: &[u8]) -> 
     ensures { λ r. ⌜ r ≡ exchangeBy (laid runs) (now (elements .entry)) host (now (block .entry)) ⌝ }
     ensures { λ r. ⌜ Within (places (now (elements .entry))) r ⌝ }
 {
-    let Found::At(arm) = arm_of(runs, wire::word_at(block, 2)) else {
+    let Found::At(arm) = arms::arm_of(runs, elements, host, wire::word_at(block, 2)) else {
         return Ruling::Refused(Cause::WrongAddress);
     };
     exchange_spots(runs, elements, host, block, arm)

@@ -14,13 +14,14 @@ use Rattle.rules.specs.Roster.{range, roster}
 use Rattle.rules.specs.Tables.{Tables, volume, source, panel, emptyShelves}
 use Rattle.rules.specs.Fitting.{accepts}
 use Rattle.rules.specs.Sound.{sound}
-use Rattle.rules.specs.Order.{Outcome, volumeOf, GOOD, CHECK-CONDITION, RESERVATION-CONFLICT}
+use Rattle.rules.specs.Order.{Outcome, heldByOther, volumeOf, GOOD, CHECK-CONDITION, RESERVATION-CONFLICT}
+use Rattle.rules.specs.Moves.{transportUsed}
 use Rattle.rules.specs.Command.{Request, Call, Command, Import, Export, Reset, serve}
 use Rattle.rules.specs.Numbers.{conditions, Foremost}
 use Rattle.rules.specs.Histories.{next, History, begun, called, imports, exports, Reply, toldTo, runRequests, replies, Mixing, none, left, right, named, From, end, more, Apart, AsGiven}
 use Rattle.rules.specs.Shelves.{lastShelf, sourceIn}
-use Rattle.rules.specs.Small.{element, empty, loaded, elementsOf, libraryOf, library, quietShowing, quietHead, smallElements, small, moveBlock, exchangeBlock, readBlock, sends, asks, lentBuffer, refuses}
-use Rattle.rules.specs.Cases.{Case, numbers, eventNumbers, twice, laden, locked, addressPage, geometryPage, capabilityPage, wholeModes, modeBlock}
+use Rattle.rules.specs.Small.{quiet, element, empty, loaded, elementsOf, libraryOf, library, quietShowing, quietHead, smallElements, small, moveBlock, exchangeBlock, readBlock, sends, asks, lentBuffer, refuses}
+use Rattle.rules.specs.Cases.{Case, numbers, eventNumbers, twice, laden, locked, addressPage, geometryPage, capabilityPage, wholeModes, modeBlock, threeArms, armsOf}
 use Rattle.rules.proofs.Ladder.{differ-true}
 use Rattle.rules.proofs.Same.{unfit-names-none}
 use Rattle.promises.specs.Refusals.{Untouched, OwnBytesAlone, Kept, Reads}
@@ -29,6 +30,7 @@ use Rattle.promises.specs.Modes.{codesOf, uncut, CutAlone}
 use Rattle.promises.specs.Demand3.{AsIfAlone}
 use Rattle.promises.specs.Sequences.{AsTheRules}
 use Rattle.promises.specs.Volumes.{standing}
+use Rattle.promises.specs.Arms.{OpenArm}
 use Rattle.rules.proofs.Opened.{opened}
 use Rattle.promises.proofs.SoundStays.{sound-stays-promised}
 use Rattle.promises.proofs.Numbers.{numbers-exact}
@@ -41,6 +43,7 @@ use Rattle.promises.proofs.Volumes.{volumes-promised, never-twice}
 use Rattle.promises.proofs.Shelves.{last-shelf}
 use Rattle.promises.proofs.Panel.{panel-true}
 use Rattle.promises.proofs.Drives.{tables-as-given, right-drives}
+use Rattle.promises.proofs.Arms.{free-arm}
 
 -- ---- a test at every member of a list
 
@@ -563,3 +566,54 @@ loads-right = right-drives mixed _ loads _ (history mixed loads) mixed-sound 0 (
 
 loads-given : AsGiven mixed (passes mixed loads)
 loads-given = tables-as-given _ _ _ _ (history mixed loads)
+
+-- ---- the arms: three of them, and who holds each
+
+armed : ℕ → ℕ → ℕ → Tables
+armed a b c = library (threeArms 2 quiet) (armsOf a b c smallElements)
+
+-- the arm that host 1 uses with the arms so held
+record Uses (a b c arm : ℕ) : Type 0 where
+  armed-sound : sound (armed a b c) ≡ true
+  used-is : transportUsed (armed a b c) 1 0 ≡ arm
+
+-- by nobody; by one other host; by two; by host 1 itself, first or between the others; all by others, where the first stands for them
+nobody : Uses 0 0 0 0x0001
+unfolding opened armed threeArms armsOf
+nobody = record { armed-sound = refl; used-is = refl }
+
+one-other : Uses 2 0 0 0x0002
+unfolding opened armed threeArms armsOf
+one-other = record { armed-sound = refl; used-is = refl }
+
+two-others : Uses 2 3 0 0x0003
+unfolding opened armed threeArms armsOf
+two-others = record { armed-sound = refl; used-is = refl }
+
+its-own : Uses 1 0 0 0x0001
+unfolding opened armed threeArms armsOf
+its-own = record { armed-sound = refl; used-is = refl }
+
+its-own-between : Uses 2 1 3 0x0002
+unfolding opened armed threeArms armsOf
+its-own-between = record { armed-sound = refl; used-is = refl }
+
+all-others : Uses 2 3 2 0x0001
+unfolding opened armed threeArms armsOf
+all-others = record { armed-sound = refl; used-is = refl }
+
+-- the promise says of the third arm that the two below it are held, and that it is not; and of the first, where it is held, that the third is too
+third : OpenArm (armed 2 3 0) 1 0x0003
+third = rw (two-others .used-is) at (free-arm (armed 2 3 0) (two-others .armed-sound) 1)
+
+second-held : heldByOther (armed 2 3 0) 1 0x0002 ≡ true
+unfolding opened armed threeArms armsOf
+second-held = third .none-lower 0x0002 refl (omega arith)
+
+third-free : heldByOther (armed 2 3 0) 1 0x0003 ≡ false
+unfolding opened armed threeArms armsOf
+third-free = refl
+
+all-held : heldByOther (armed 2 3 2) 1 0x0003 ≡ true
+unfolding opened armed threeArms armsOf
+all-held = (rw (all-others .used-is) at (free-arm (armed 2 3 2) (all-others .armed-sound) 1)) .held-last refl 0x0003 refl

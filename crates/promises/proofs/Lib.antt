@@ -8,6 +8,7 @@ pub mod Volumes
 pub mod Shelves
 pub mod Panel
 pub mod Drives
+pub mod Arms
 pub mod Listings
 pub mod Modes
 pub mod Replays

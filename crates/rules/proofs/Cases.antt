@@ -13,11 +13,11 @@ use Rattle.rules.specs.Tables.{lent, ofRow}
 use Rattle.rules.specs.Order.{Outcome}
 use Rattle.rules.specs.Command.{serve}
 use Rattle.rules.specs.Small.{endsOn, ends, checks, refuses}
-use Rattle.rules.specs.Cases.{Case, Name, moves, exchanges, whole12, read12, cuts, tagged, labelled, wholeAll, readAll, failedReserve, ownSense, importAfterReset, shipped, twice, laden, locked, numbers, eventNumbers, stepCases, heldBy, withheld, touchCases, holdCases, eventCases, addressPage, geometryPage, capabilityPage, wholeModes, modeBlock, modeCases, armsHead, armsElements, longCases, carries, shelfMoves, shelfExchanges, unsoundSource, sourceCases, unsoundPanel, panelCases, wrongDrive, fitMoves, fitExchanges, unsoundFit, fitCases, cases, same, sameAll, sameOutcome, wrong}
+use Rattle.rules.specs.Cases.{Case, Name, moves, exchanges, whole12, read12, cuts, tagged, labelled, wholeAll, readAll, failedReserve, ownSense, importAfterReset, shipped, twice, laden, locked, numbers, eventNumbers, stepCases, heldBy, withheld, touchCases, holdCases, eventCases, addressPage, geometryPage, capabilityPage, wholeModes, modeBlock, modeCases, armsHead, armsElements, longCases, carries, shelfMoves, shelfExchanges, unsoundSource, sourceCases, unsoundPanel, panelCases, wrongDrive, fitMoves, fitExchanges, unsoundFit, fitCases, threeArms, armsOf, armCarries, armStalls, armMoves, armExchanges, cases, same, sameAll, sameOutcome, wrong}
 
 -- `wrong` with every definition open. The table is computed in parts that are small enough for an error to name the row.
 tested : List Case → List Name
-unfolding opened endsOn ends checks refuses moves exchanges whole12 read12 cuts tagged labelled wholeAll readAll failedReserve ownSense importAfterReset shipped twice laden locked numbers eventNumbers stepCases heldBy withheld touchCases holdCases eventCases addressPage geometryPage capabilityPage wholeModes modeBlock modeCases armsHead armsElements longCases carries shelfMoves shelfExchanges unsoundSource sourceCases unsoundPanel panelCases wrongDrive fitMoves fitExchanges unsoundFit fitCases cases same sameAll sameOutcome wrong
+unfolding opened endsOn ends checks refuses moves exchanges whole12 read12 cuts tagged labelled wholeAll readAll failedReserve ownSense importAfterReset shipped twice laden locked numbers eventNumbers stepCases heldBy withheld touchCases holdCases eventCases addressPage geometryPage capabilityPage wholeModes modeBlock modeCases armsHead armsElements longCases carries shelfMoves shelfExchanges unsoundSource sourceCases unsoundPanel panelCases wrongDrive fitMoves fitExchanges unsoundFit fitCases threeArms armsOf armCarries armStalls armMoves armExchanges cases same sameAll sameOutcome wrong
 tested cs = wrong cs
 
 moves-computed : tested moves ≡ []
@@ -100,6 +100,14 @@ fitCases-computed : tested fitCases ≡ []
 unfolding tested
 fitCases-computed = refl {a = []}
 
+armMoves-computed : tested armMoves ≡ []
+unfolding tested
+armMoves-computed = refl {a = []}
+
+armExchanges-computed : tested armExchanges ≡ []
+unfolding tested
+armExchanges-computed = refl {a = []}
+
 -- ---- the test says what it should: each row is an equation
 
 same-true : (xs ys : List ℕ) → same xs ys ≡ true → xs ≡ ys
@@ -176,12 +184,12 @@ both : {cs ds : List Case} → AllHold cs → AllHold ds → AllHold (cs ++ ds)
 both none h = h
 both (one e g) h = one e (both g h)
 
--- P1 to P12, READ all, the errors that were shipped, a row for each house number, step and command, the last shelf, the empty shelves, and what a drive takes
+-- P1 to P12, READ all, the errors that were shipped, a row for each house number, step and command, the last shelf, the empty shelves, what a drive takes, and the arm
 pub cases-hold : AllHold cases
 unfolding cases
 cases-hold =
     both
-    (both (both (both (both (both (both (both (both (both (both (both (both (both (both (both (both (both (both (hold moves moves-computed)
+    (both (both (both (both (both (both (both (both (both (both (both (both (both (both (both (both (both (both (both (both (hold moves moves-computed)
     (hold exchanges exchanges-computed))
     (hold cuts cuts-computed))
     (hold readAll readAll-computed))
@@ -200,4 +208,6 @@ cases-hold =
     (hold panelCases panelCases-computed))
     (hold fitMoves fitMoves-computed))
     (hold fitExchanges fitExchanges-computed))
-    (hold fitCases fitCases-computed)
+    (hold fitCases fitCases-computed))
+    (hold armMoves armMoves-computed))
+    (hold armExchanges armExchanges-computed)

@@ -12,7 +12,7 @@ use Rattle.rules.specs.Tables.{Tables, lent, hosts, unitAt, elementAt, e
 use Rattle.rules.specs.Roster.{Slot, roster, placeOf, kindOf, transport}
 use Rattle.rules.specs.Sound.{within}
 use Rattle.rules.specs.Order.{Verdict, Number, Prevented, Done, after, fits, good, check, conflict, other, heldByOther}
-use Rattle.rules.specs.Moves.{noPlace, leave, carry, moveOf, move, exchangeOf, exchange}
+use Rattle.rules.specs.Moves.{openTransport, noPlace, leave, carry, moveOf, move, exchangeOf, exchange}
 use Rattle.rules.specs.Sense.{requestSense}
 use Rattle.rules.specs.Operation.{Operation, TestUnitReady, RequestSense, Reserve, Release, PreventAllow, MoveMedium, ExchangeMedium, ReadElementStatus, ModeSense, Unknown, operation}
 use Rattle.rules.specs.Command.{Request, act, steps, blockFits, afterNumbers, judged}
@@ -80,9 +80,17 @@ head-same h T N t head′ front own =
       rest-is = refl;
       unit-is = ap (other h) (sym (front unitAt (omega arith)));
       own-is = λ k j i. sym (own k j i);
+      open-is = rw r refl;
       held-is = λ a m. rw r;
       record-is = λ a m j l. rw r;
     }
+
+-- "since its commands change no reservation": where every holder is as it was, the same transport is open
+open-same : (h : ℕ) (es fs : List ℕ) → ((p : ℕ) → byte fs (elementAt p + 4) ≡ byte es (elementAt p + 4)) → (ss : List Slot) (a : ℕ)
+    → openTransport h es ss a ≡ openTransport h fs ss a
+unfolding openTransport holder
+open-same h es fs same [] a = refl
+open-same h es fs same (s ∷ ss) a = cc (open-same h es fs same ss a, same (s .place))
 
 -- a write of the elements that leaves every holder, and the records of the addresses N
 elements-same : (h : ℕ) (T N : List ℕ) (t : Tables) (es : List ℕ)
@@ -98,6 +106,7 @@ elements-same h T N t es holders records =
       rest-is = refl;
       unit-is = refl;
       own-is = λ k j i. refl;
+      open-is = open-same h (t .elements) es holders (roster (t .head)) _;
       held-is = λ a x. ap (other h) (sym (holders _));
       record-is = λ a x j l. sym (records a x j l);
     }
@@ -133,6 +142,7 @@ same-refl h T N t =
       rest-is = refl;
       unit-is = refl;
       own-is = λ k j i. refl;
+      open-is = refl;
       held-is = λ a m. refl;
       record-is = λ a m j l. refl;
     }
@@ -145,6 +155,7 @@ same-trans a b =
       rest-is = a .rest-is ∙ b .rest-is;
       unit-is = a .unit-is ∙ b .unit-is;
       own-is = λ k j i. a .own-is k j i ∙ b .own-is k j i;
+      open-is = a .open-is ∙ b .open-is;
       held-is = λ x m. a .held-is x m ∙ b .held-is x m;
       record-is = λ x m j l. a .record-is x m j l ∙ b .record-is x m j l;
     }

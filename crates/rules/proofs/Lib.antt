@@ -14,6 +14,7 @@ pub mod Acts
 pub mod Pages
 pub mod Ascending
 pub mod Typed
+pub mod Arms
 pub mod KeepHead
 pub mod KeepElements
 pub mod KeepDrives

@@ -53,7 +53,7 @@ module _ (t : Tables) (x y : Request) (s : Strangers x y) where
   judge-past : judge (next t (Command x)) y ≡ judge t y
   unfolding judge next verdict
   judge-past =
-      let alike : Same (y .host) (touched t (y .block)) (named (y .block)) t (after (judge t x) t)
+      let alike : Same (y .host) (touched t (y .host) (y .block)) (named (y .block)) t (after (judge t x) t)
       = after-same (y .host) (x .host) _ (named (y .block)) (named (x .block)) (λ e. s .hosts-differ (sym e)) (λ a m n. s .addresses-differ a n m)
       (judge t x) t (judge-kept t x (s .x-mixes)) in
       cc (sound-next t x, judged-is y t (after (judge t x) t) (s .y-mixes) alike)

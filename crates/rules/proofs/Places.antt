@@ -95,7 +95,7 @@ unfolding slots
 slots-placed k a p zero ss h = let e : p + 0 ≡ p = omega arith in rw e at h
 slots-placed k a p (suc n) ss h = let e : p + suc n ≡ suc p + n = omega arith in (refl, slots-placed k (suc a) (suc p) n ss (rw e at h))
 
-spread-placed : (p : ℕ) (rs : List Range) → Placed p (spread p rs)
+pub spread-placed : (p : ℕ) (rs : List Range) → Placed p (spread p rs)
 unfolding spread
 spread-placed p [] = tt
 spread-placed p (r ∷ rs) = slots-placed (r .kind) (r .first) p (r .count) (spread (p + r .count) rs) (spread-placed (p + r .count) rs)

@@ -7,11 +7,11 @@ use mathlib.Core.List.{List, [], _∷_, List·Memᴰ}
 use Rattle.rules.specs.Choice.{when}
 use Rattle.rules.specs.Bytes.{byte, word}
 use Rattle.rules.specs.Tables.{Tables, hosts, hostAt, attentionAt, elementAt, elementSize, unit, key, asc, ascq, attention, attentionq, volume, source}
-use Rattle.rules.specs.Roster.{range, roster, placeOf}
+use Rattle.rules.specs.Roster.{range, roster, placeOf, firstTransport}
 use Rattle.rules.specs.Sound.{within}
 use Rattle.rules.specs.Order.{Verdict, other, heldByOther, volumeOf, sourceOf, afterAttention, afterUnit, guarded}
 use Rattle.rules.specs.Fitting.{maskOf, driveTakes, unfit}
-use Rattle.rules.specs.Moves.{transportUsed, noTransport, noPlace, leave, shelfOf, carry, moveOf, move, exchangeOf, exchange}
+use Rattle.rules.specs.Moves.{openTransport, transportUsed, noTransport, noPlace, leave, shelfOf, carry, moveOf, move, exchangeOf, exchange}
 use Rattle.rules.specs.Sense.{tellsAttention, requestSense}
 use Rattle.rules.specs.Operation.{Operation, TestUnitReady, RequestSense, Reserve, Release, PreventAllow, MoveMedium, ExchangeMedium, ReadElementStatus, ModeSense, Unknown, operation}
 use Rattle.rules.specs.Form.{ownFault, fault, formed}
@@ -30,12 +30,12 @@ abbrev recordWord : Tables → ℕ → ℕ → ℕ
 recordWord t a j = word (t .elements) (elementAt (placeOf (roster (t .head)) a) + j)
 
 -- the addresses that a block's command touches: those named and, where one is, the transport used
-unfoldable pub touching : Tables → List ℕ → List ℕ → List ℕ
-touching t block [] = []
-touching t block (a ∷ more) = transportUsed t (word block 2) ∷ a ∷ more
+unfoldable pub touching : Tables → ℕ → List ℕ → List ℕ → List ℕ
+touching t h block [] = []
+touching t h block (a ∷ more) = transportUsed t h (word block 2) ∷ a ∷ more
 
-unfoldable pub touched : Tables → List ℕ → List ℕ
-touched t block = touching t block (named block)
+unfoldable pub touched : Tables → ℕ → List ℕ → List ℕ
+touched t h block = touching t h block (named block)
 
 -- a block of wrong length names nothing
 pub unfit-names-none : (block : List ℕ) → blockFits block ≡ false → named block ≡ []
@@ -43,13 +43,15 @@ unfolding named
 unfit-names-none block e = when-false (blockFits block) (namedBy (operation block) block) [] e
 
 -- t and u are alike in all that a command of host h reads which touches T and names N: the elements there are, what no call writes, whether another
--- host holds the unit or an element touched, the host's own bytes of the head, and the bytes of the elements named
+-- host holds the unit or an element touched, which transport is open to this one, the host's own bytes of the head, and the bytes of the elements named
 pub record Same (h : ℕ) (T N : List ℕ) (t u : Tables) : Type 0 where
   pub roster-is : roster (t .head) ≡ roster (u .head)
   pub drives-are : range (t .head) 3 ≡ range (u .head) 3
   pub rest-is : t .rest ≡ u .rest
   pub unit-is : other h (unit (t .head)) ≡ other h (unit (u .head))
   pub own-is : h ≤ hosts → (j : ℕ) → OfHost h j → byte (t .head) j ≡ byte (u .head) j
+  pub open-is : openTransport h (t .elements) (roster (t .head)) (firstTransport (roster (t .head)))
+      ≡ openTransport h (u .elements) (roster (u .head)) (firstTransport (roster (u .head)))
   pub held-is : (a : ℕ) → List·Memᴰ a T → heldByOther t h a ≡ heldByOther u h a
   pub record-is : (a : ℕ) → List·Memᴰ a N → (j : ℕ) → j < elementSize → recordByte t a j ≡ recordByte u a j
 
@@ -70,9 +72,9 @@ module _ (h : ℕ) (T N : List ℕ) (t u : Tables) (k : h ≤ hosts) (s : Same h
   unfolding noTransport
   noTransport-is a = cc (s .roster-is)
 
-  transportUsed-is : (a : ℕ) → transportUsed t a ≡ transportUsed u a
+  transportUsed-is : (a : ℕ) → transportUsed t h a ≡ transportUsed u h a
   unfolding transportUsed
-  transportUsed-is a = cc (s .roster-is)
+  transportUsed-is a = cc (s .open-is)
 
   leave-is : (a : ℕ) → leave t a ≡ leave u a
   unfolding leave
@@ -175,7 +177,7 @@ module _ (h : ℕ) (T N : List ℕ) (t u : Tables) (k : h ≤ hosts) (s : Same h
 module _ (h : ℕ) (k : h ≤ hosts) (block : List ℕ) (t u : Tables) where
   -- by the operation of the block
   abbrev Alike : Operation → Type 0
-  Alike op = Same h (touching t block (namedBy op block)) (namedBy op block) t u
+  Alike op = Same h (touching t h block (namedBy op block)) (namedBy op block) t u
 
   move-is : Alike MoveMedium → move t h block ≡ move u h block
   unfolding move touching namedBy
@@ -203,15 +205,15 @@ module _ (h : ℕ) (k : h ≤ hosts) (block : List ℕ) (t u : Tables) where
   stepsOf-is ModeSense list m s = absurd (never m)
   stepsOf-is Unknown list m s = absurd (never m)
 
-  steps-is : (list : List ℕ) → mixes block ≡ true → blockFits block ≡ true → Same h (touched t block) (named block) t u
+  steps-is : (list : List ℕ) → mixes block ≡ true → blockFits block ≡ true → Same h (touched t h block) (named block) t u
       → steps t h block list ≡ steps u h block list
   unfolding steps mixes touched named
   steps-is list m f s =
       let e = when-true (blockFits block) (namedBy (operation block) block) [] f in
-      stepsOf-is (operation block) list m (subst (λ (N : List ℕ). Same h (touching t block N) N t u) e s)
+      stepsOf-is (operation block) list m (subst (λ (N : List ℕ). Same h (touching t h block N) N t u) e s)
 
 -- a host that there is not, and a block that does not fit, are refused whatever the tables hold
-pub judged-is : (r : Request) (t u : Tables) → mixes (r .block) ≡ true → Same (r .host) (touched t (r .block)) (named (r .block)) t u
+pub judged-is : (r : Request) (t u : Tables) → mixes (r .block) ≡ true → Same (r .host) (touched t (r .host) (r .block)) (named (r .block)) t u
     → judged t r ≡ judged u r
 unfolding judged afterNumbers
 judged-is r t u m s = go (within 1 hosts (r .host)) (blockFits (r .block)) refl refl

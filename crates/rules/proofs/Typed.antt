@@ -92,8 +92,15 @@ counted s (r ∷ rs) q i (inr m) b h =
     let y = slots-out (r .count) (r .kind) (r .first) q (s .first) rest (λ j l z. omega arith) in
     record { kind-is = x .0 ∙ c .kind-is; place-is = omega (arith, x .1, y .1, c .place-is) }
 
--- the i-th drive
+-- the i-th element of a range of the head
+range-counted : (head : List ℕ) (r : Range) → rangesSound (ranges head) ≡ true → Among r (ranges head) → (i : ℕ) → i < r .count → Counted (roster head) r i
+unfolding roster
+range-counted head r e m i h = counted r (sorted (ranges head)) 0 i (among-sorted r (ranges head) m) (ascending (ranges head) e) h
+
+pub transport-counted : (head : List ℕ) → rangesSound (ranges head) ≡ true → (i : ℕ) → i < range head 0 .count → Counted (roster head) (range head 0) i
+unfolding ranges
+transport-counted head e i h = range-counted head (range head 0) e (inl refl) i h
+
 pub drive-counted : (head : List ℕ) → rangesSound (ranges head) ≡ true → (i : ℕ) → i < range head 3 .count → Counted (roster head) (range head 3) i
-unfolding roster ranges
-drive-counted head e i h =
-    counted (range head 3) (sorted (ranges head)) 0 i (among-sorted (range head 3) (ranges head) (inr (inr (inr (inl refl))))) (ascending (ranges head) e) h
+unfolding ranges
+drive-counted head e i h = range-counted head (range head 3) e (inr (inr (inr (inl refl)))) i h

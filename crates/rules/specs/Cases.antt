@@ -3,14 +3,14 @@
 use Prim.Native.Nat.{ℕ}
 use mathlib.Core.List.{List, [], _∷_, _++_}
 use mathlib.Core.Bool.{Bool, true, false}
-use lib.ListN.{replicate, take}
+use lib.ListN.{replicate, take, drop}
 use lib.Dec.{eqb}
 use Rattle.rules.specs.Choice.{when, allOf}
 use Rattle.rules.specs.Bytes.{high, low}
-use Rattle.rules.specs.Tables.{Tables, row}
+use Rattle.rules.specs.Tables.{Tables, elementSize, row}
 use Rattle.rules.specs.Order.{Outcome}
 use Rattle.rules.specs.Command.{Call, Import, Export, Reset, serve}
-use Rattle.rules.specs.Small.{Host, hostBytes, quiet, senses, awaits, headShowing, headOf, quietShowing, element, empty, loaded, elementsOf, libraryOf, library, quietHead, smallElements, small, moveBlock, exchangeBlock, readBlock, reserveBlock, naming, sends, asks, lentBuffer, endsOn, ends, checks, refuses}
+use Rattle.rules.specs.Small.{Host, hostBytes, quiet, senses, awaits, headShowing, headOf, quietShowing, element, empty, loaded, elementsOf, libraryOf, library, quietHead, smallElements, small, moveBlock, exchangeBlock, byArm, readBlock, reserveBlock, naming, sends, asks, lentBuffer, endsOn, ends, checks, refuses}
 
 pub data Name : Type 0 where
   P1 : Name
@@ -97,6 +97,19 @@ pub data Name : Type 0 where
   generation-9 : Name
   one-generation-too-few : Name
   one-mask-too-many : Name
+  MOVE-no-arm-held : Name
+  MOVE-first-arm-held : Name
+  MOVE-two-arms-held : Name
+  MOVE-first-arm-its-own : Name
+  MOVE-its-own-arm-between : Name
+  MOVE-all-arms-held : Name
+  MOVE-all-arms-held-wrong-address : Name
+  MOVE-all-arms-held-source-empty : Name
+  MOVE-named-arm-held : Name
+  MOVE-named-arm-free : Name
+  EXCHANGE-two-arms-held : Name
+  EXCHANGE-all-arms-held : Name
+  EXCHANGE-named-arm-held : Name
 
 pub record Case : Type 0 where
   pub name : Name
@@ -634,11 +647,68 @@ fitCases =
     ∷ unsoundFit one-mask-too-many (1 ∷ 1 ∷ 1 ∷ []) (0x01 ∷ 0x01 ∷ []) 2 smallElements
     ∷ []
 
+-- ---- "Any free arm": the small library with three transports, 0001h to 0003h
+
+-- so many shelves are empty; host 1
+unfoldable pub threeArms : ℕ → Host → List ℕ
+threeArms free one = 0x00 ∷ 0x01 ∷ 0 ∷ 3 ∷ drop 4 (headShowing free 0 0 one quiet quiet)
+
+-- the holders of the three; the elements behind them are those behind the one
+unfoldable pub armsOf : ℕ → ℕ → ℕ → List ℕ → List ℕ
+armsOf a b c elements = element 0 0 a 0 0 ++ element 0 0 b 0 0 ++ element 0 0 c 0 0 ++ drop elementSize elements
+
+-- carried out for host 1: the holders, the block, the empty shelves and the elements afterwards
+unfoldable pub armCarries : Name → ℕ → ℕ → ℕ → List ℕ → ℕ → List ℕ → Case
+armCarries name a b c block left behind =
+    record {
+      name = name;
+      on = library (threeArms 2 quiet) (armsOf a b c smallElements);
+      call = asks block;
+      gives = ends 0x00 0 (threeArms left quiet) (armsOf a b c behind) [];
+    }
+
+-- refused: the status, and host 1 afterwards
+unfoldable pub armStalls : Name → ℕ → ℕ → ℕ → List ℕ → ℕ → Host → Case
+armStalls name a b c block status one =
+    record {
+      name = name;
+      on = library (threeArms 2 quiet) (armsOf a b c smallElements);
+      call = asks block;
+      gives = ends status 0 (threeArms 2 one) (armsOf a b c smallElements) [];
+    }
+
+unfoldable pub armMoves : List Case
+armMoves =
+    let drive = elementsOf empty (element 1 0x1000 0 0 0) empty empty (loaded 2) empty in
+    -- "Transport 0 now means the lowest-addressed transport not held by another host"
+    armCarries MOVE-no-arm-held 0 0 0 (moveBlock 0x1000 0x0100) 3 drive
+    ∷ armCarries MOVE-first-arm-held 2 0 0 (moveBlock 0x1000 0x0100) 3 drive
+    ∷ armCarries MOVE-two-arms-held 2 3 0 (moveBlock 0x1000 0x0100) 3 drive
+    ∷ armCarries MOVE-first-arm-its-own 1 0 0 (moveBlock 0x1000 0x0100) 3 drive
+    ∷ armCarries MOVE-its-own-arm-between 2 1 3 (moveBlock 0x1000 0x0100) 3 drive
+    -- "if there is none, 18h at step 6": behind the addresses, before what stands there
+    ∷ armStalls MOVE-all-arms-held 2 3 2 (moveBlock 0x1000 0x0100) 0x18 quiet
+    ∷ armStalls MOVE-all-arms-held-wrong-address 2 3 2 (moveBlock 0x1000 0x1004) 0x02 (senses 5 0x21 0x01)
+    ∷ armStalls MOVE-all-arms-held-source-empty 2 3 2 (moveBlock 0x1001 0x0100) 0x18 quiet
+    -- "A transport named by its address is as before."
+    ∷ armStalls MOVE-named-arm-held 2 0 0 (byArm 0x0001 (moveBlock 0x1000 0x0100)) 0x18 quiet
+    ∷ armCarries MOVE-named-arm-free 2 0 0 (byArm 0x0003 (moveBlock 0x1000 0x0100)) 3 drive
+    ∷ []
+
+-- "Every command that takes a transport address follows."
+unfoldable pub armExchanges : List Case
+armExchanges =
+    armCarries EXCHANGE-two-arms-held 2 3 0 (exchangeBlock 0x1000 0x1002 0x1000) 2
+    (elementsOf empty empty (element 2 0x1002 0 0 0) empty (element 1 0x1000 0 0 0) empty)
+    ∷ armStalls EXCHANGE-all-arms-held 2 2 3 (exchangeBlock 0x1000 0x1002 0x1000) 0x18 quiet
+    ∷ armStalls EXCHANGE-named-arm-held 0 2 0 (byArm 0x0002 (exchangeBlock 0x1000 0x1002 0x1000)) 0x18 quiet
+    ∷ []
+
 -- "P1 to P12 are one table", with the rows above
 unfoldable pub cases : List Case
 cases =
     moves ++ exchanges ++ cuts ++ readAll ++ shipped ++ numbers ++ eventNumbers ++ stepCases ++ touchCases ++ holdCases ++ eventCases ++ modeCases ++ longCases
-    ++ shelfMoves ++ shelfExchanges ++ sourceCases ++ panelCases ++ fitMoves ++ fitExchanges ++ fitCases
+    ++ shelfMoves ++ shelfExchanges ++ sourceCases ++ panelCases ++ fitMoves ++ fitExchanges ++ fitCases ++ armMoves ++ armExchanges
 
 -- ---- the test over all rows: the names of those whose outcome is another
 

@@ -1,18 +1,25 @@
 -- MOVE and EXCHANGE, from step 5 on. Assumes nothing.
 use Prim.Native.Nat.{ℕ}
 use mathlib.Core.List.{List, [], _∷_}
-use mathlib.Core.Bool.{Bool}
+use mathlib.Core.Bool.{Bool, not}
 use lib.Dec.{eqb, leb}
 use Rattle.rules.specs.Choice.{when, anyOf, allOf, differ}
 use Rattle.rules.specs.Bytes.{word}
-use Rattle.rules.specs.Tables.{Tables, Change, Fill, Recount}
-use Rattle.rules.specs.Roster.{roster, placeOf, kindOf, firstTransport, transport, storage}
-use Rattle.rules.specs.Order.{Verdict, WrongAddress, SourceEmpty, DestinationFull, IncompatibleMedium, good, refused, conflict, heldByOther, volumeOf, sourceOf}
+use Rattle.rules.specs.Tables.{Tables, holder, Change, Fill, Recount}
+use Rattle.rules.specs.Roster.{Slot, roster, placeOf, kindOf, firstTransport, transport, storage}
+use Rattle.rules.specs.Order.{Verdict, WrongAddress, SourceEmpty, DestinationFull, IncompatibleMedium, good, refused, conflict, other, heldByOther, volumeOf, sourceOf}
 use Rattle.rules.specs.Fitting.{unfit}
 
--- "Transport 0 means the lowest-addressed one"
-unfoldable pub transportUsed : Tables → ℕ → ℕ
-transportUsed t a = when (eqb a 0) (firstTransport (roster (t .head))) a
+-- "the lowest-addressed transport not held by another host" than h, among the elements of a list; `none` where each is held
+unfoldable pub openTransport : ℕ → List ℕ → List Slot → ℕ → ℕ
+openTransport h elements [] none = none
+openTransport h elements (s ∷ ss) none =
+    when (allOf (eqb (s .kind) transport ∷ not (other h (holder elements (s .place))) ∷ [])) (s .address) (openTransport h elements ss none)
+
+-- "Transport 0 now means" that one; "if there is none, 18h at step 6": the first, which another host then holds, stands for them all. "A transport
+-- named by its address is as before."
+unfoldable pub transportUsed : Tables → ℕ → ℕ → ℕ
+transportUsed t h a = when (eqb a 0) (openTransport h (t .elements) (roster (t .head)) (firstTransport (roster (t .head)))) a
 
 -- "any other must be a transport"
 unfoldable pub noTransport : Tables → ℕ → Bool
@@ -47,7 +54,7 @@ moveOf t h arm from to =
 
 -- "MOVE: bytes 2-3 transport, 4-5 source, 6-7 destination"
 unfoldable pub move : Tables → ℕ → List ℕ → Verdict
-move t h block = moveOf t h (transportUsed t (word block 2)) (word block 4) (word block 6)
+move t h block = moveOf t h (transportUsed t h (word block 2)) (word block 4) (word block 6)
 
 -- the same for EXCHANGE: the transport used, the source, the first and the second destination; "either leg of an exchange that ends in a drive".
 -- Both volumes and their sources are read before a place is written; "the source, unless it is the second, is then a place left".
@@ -62,4 +69,4 @@ exchangeOf t h arm from first second =
 
 -- "EXCHANGE: 4-5 source, 6-7 first destination, 8-9 second"
 unfoldable pub exchange : Tables → ℕ → List ℕ → Verdict
-exchange t h block = exchangeOf t h (transportUsed t (word block 2)) (word block 4) (word block 6) (word block 8)
+exchange t h block = exchangeOf t h (transportUsed t h (word block 2)) (word block 4) (word block 6) (word block 8)

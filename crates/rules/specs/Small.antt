@@ -2,7 +2,7 @@
 use Prim.Native.Nat.{ℕ}
 use mathlib.Core.List.{List, [], _∷_, _++_}
 use lib.ListN.{replicate}
-use Rattle.rules.specs.Bytes.{three, high, low}
+use Rattle.rules.specs.Bytes.{three, high, low, put}
 use Rattle.rules.specs.Tables.{Tables, lent, others}
 use Rattle.rules.specs.Order.{Outcome}
 use Rattle.rules.specs.Command.{Call, Command}
@@ -100,6 +100,10 @@ moveBlock from to = 0xA5 ∷ 0 ∷ 0 ∷ 0 ∷ high from ∷ low from ∷ high t
 unfoldable pub exchangeBlock : ℕ → ℕ → ℕ → List ℕ
 exchangeBlock from first second =
     0xA6 ∷ 0 ∷ 0 ∷ 0 ∷ high from ∷ low from ∷ high first ∷ low first ∷ high second ∷ low second ∷ 0 ∷ 0 ∷ []
+
+-- the block of a MOVE or EXCHANGE with a transport named: "bytes 2-3 transport"
+unfoldable pub byArm : ℕ → List ℕ → List ℕ
+byArm arm block = put block 2 (high arm ∷ low arm ∷ [])
 
 -- byte 1 (tags and type), start 0, most elements, allocation
 unfoldable pub readBlock : ℕ → ℕ → ℕ → List ℕ

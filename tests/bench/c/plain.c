@@ -271,11 +271,21 @@ static smc_reply prevent_allow(library *l, const request *q)
     return GOOD;
 }
 
-/* The record of the transport that is named, null for none; 0 names the lowest. */
-static inline uint8_t *transport(const library *l, unsigned address)
+static inline bool others(const uint8_t *e, const request *q) { return e[HOLDER] && e[HOLDER] != q->host; }
+
+/* The record of the transport that is named, null for none. 0 names the lowest that no other host holds; where there is none, it is the last, whose holder
+ * step 6 then finds. */
+static inline uint8_t *transport(const library *l, const request *q)
 {
+    const unsigned address = get16(q->block + 2);
     unsigned kind = TRANSPORT, place = find(l, address ? address : get16(l->head), &kind);
-    return place == NOWHERE || kind != TRANSPORT ? NULL : l->elements + SMC_ELEMENT_SIZE * place;
+    if (place == NOWHERE || kind != TRANSPORT)
+        return NULL;
+    uint8_t *arm = l->elements + SMC_ELEMENT_SIZE * place;
+    if (!address)
+        for (unsigned behind = get16(l->head + 2) - 1; behind > 0 && others(arm, q); behind--)
+            arm += SMC_ELEMENT_SIZE;
+    return arm;
 }
 
 /* An element that is no transport: its record, null for none, whether it is a shelf, and which generations it takes; shelves and slots take all. */
@@ -291,8 +301,6 @@ static inline spot spot_of(const library *l, unsigned address)
     const uint8_t mask = kind == DRIVE ? l->masks[address - get16(l->head + 4 * (DRIVE - 1))] : 0xFF;
     return (spot){kind == TRANSPORT ? NULL : l->elements + SMC_ELEMENT_SIZE * place, kind == STORAGE, mask};
 }
-
-static inline bool others(const uint8_t *e, const request *q) { return e[HOLDER] && e[HOLDER] != q->host; }
 
 /* The first four bytes are volume and source. */
 static inline void fill(uint8_t *e, unsigned volume, unsigned source)
@@ -315,7 +323,7 @@ static smc_reply move(library *l, const request *q)
 {
     unsigned source = get16(q->block + 4), destination = get16(q->block + 6);
     const spot from = spot_of(l, source), to = spot_of(l, destination);
-    uint8_t *t = transport(l, get16(q->block + 2)), *s = from.e, *d = to.e;
+    uint8_t *t = transport(l, q), *s = from.e, *d = to.e;
     if (!t || !s || !d)
         return WRONG_ADDRESS;
     if (others(t, q) || others(s, q) || others(d, q))
@@ -336,7 +344,7 @@ static smc_reply exchange(library *l, const request *q)
 {
     unsigned source = get16(q->block + 4), first = get16(q->block + 6), second = get16(q->block + 8), up, down, up_shelf, down_shelf;
     const spot from = spot_of(l, source), by = spot_of(l, first), to = spot_of(l, second);
-    uint8_t *t = transport(l, get16(q->block + 2)), *s = from.e, *f = by.e, *g = to.e;
+    uint8_t *t = transport(l, q), *s = from.e, *f = by.e, *g = to.e;
     if (!t || !s || !f || !g || f == s)
         return WRONG_ADDRESS;
     if (others(t, q) || others(s, q) || others(f, q) || others(g, q))

@@ -1,5 +1,6 @@
 //! Which outcomes a run has reached, how often, and which it must reach to count.
 
+mod arms;
 mod cartridges;
 mod mode;
 mod panel;
@@ -17,6 +18,7 @@ use crate::compare::Made;
 use crate::generate::calls::COMMANDS;
 use crate::generate::logs::LineFault;
 
+pub use arms::{Besides, Holder, Named, Which};
 pub use cartridges::{Earlier, Legs, Unfit};
 pub use mode::{ModeCut, ModeFault};
 pub use panel::{Change, Wrong};
@@ -162,6 +164,15 @@ pub enum Outcome {
     ImportedForNoDrive,
     /// House number 1: how generations and masks are not sound.
     Unfit(Unfit),
+    /// GOOD by transport 0: the arm that it came to.
+    ArmUsed(First, Which, Holder),
+    /// 18h at step 6 by transport 0, with so many arms, three standing for more: other hosts hold them all.
+    NoArm(First, u8, Besides),
+    /// 5/21/01 although other hosts hold them all.
+    NoArmUntold(First),
+    NamedArm(First, Named),
+    /// An applied line with transport 0, where another host holds the lowest: whether another arm was free.
+    LineByALaterArm(First, bool),
     /// An applied line that ended in 5/30/12.
     LineNotTaken(First),
     /// GOOD, with the last of 127 transports named.
@@ -244,6 +255,17 @@ impl fmt::Display for Outcome {
             Outcome::Untold(first, earlier) => format!("{first}: {earlier:?} before 5/30/12"),
             Outcome::ImportedForNoDrive => "Import of what no drive takes".into(),
             Outcome::Unfit(unfit) => format!("not sound: {unfit:?}"),
+            Outcome::ArmUsed(first, which, holder) => {
+                format!("{first}: any arm, {which:?}, held by {holder:?}")
+            }
+            Outcome::NoArm(first, arms, besides) => {
+                format!("{first}: none of {arms} arms, besides {besides:?}")
+            }
+            Outcome::NoArmUntold(first) => format!("{first}: 5/21/01 before no free arm"),
+            Outcome::NamedArm(first, named) => format!("{first}: named arm, {named:?}"),
+            Outcome::LineByALaterArm(first, free) => {
+                format!("line, {first}: first arm held, another free {free}")
+            }
             Outcome::LineNotTaken(first) => format!("line, {first}: 5/30/12"),
             Outcome::LargestListing => "listing of 26,664 bytes".into(),
             Outcome::LastOfMostTransports(first) => {
@@ -371,6 +393,7 @@ fn command_outcomes(
         (0x18, _) => {
             let mut reached = untold(Earlier::Conflict);
             reached.push(Outcome::Conflict(first));
+            reached.extend(arms::conflict(before, host, first, block));
             reached
         }
         (0x02, _) => {
@@ -380,6 +403,7 @@ fn command_outcomes(
                 reached.extend(mode::fault(before, block));
             }
             reached.extend(match *sense {
+                [5, 0x21, 0x01] => Vec::from_iter(arms::untold(before, host, first, block)),
                 [5, 0x30, 0x12] => cartridges::not_taken(before, first, block),
                 [5, 0x3B, 0x0E] => untold(Earlier::Empty),
                 [5, 0x3B, 0x0D] => untold(Earlier::Full),
@@ -414,6 +438,7 @@ fn command_outcomes(
             reached.extend(panel::second(before, first, block));
             reached.extend(panel::changes(before, first, made));
             reached.extend(cartridges::loaded(before, first, block));
+            reached.extend(arms::used(before, host, first, block));
             if names_last_of_most_transports(before, block) {
                 reached.push(Outcome::LastOfMostTransports(first));
             }
@@ -538,6 +563,7 @@ pub fn required() -> Vec<Outcome> {
     required.extend(shelves::required());
     required.extend(panel::required());
     required.extend(cartridges::required());
+    required.extend(arms::required());
     required.extend(replay::required());
     required.extend((1..=8).map(Outcome::Preventers));
     required.extend((1..=8).map(Outcome::Lowest));

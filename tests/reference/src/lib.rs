@@ -1,9 +1,10 @@
-//! The rules of document 01, with requests One to Six of document 02, over plain records.
+//! The rules of document 01, with requests One to Seven of document 02, over plain records.
 //!
 //! The lent bytes are read into a [`library::Library`], the rules work on that, and the result is written
 //! back. It is meant to be read beside these documents and to be compared with the command core; it is not
 //! meant to be fast.
 
+mod arms;
 mod bytes;
 mod cartridges;
 mod command;

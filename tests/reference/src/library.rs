@@ -153,13 +153,6 @@ impl Library {
         self.elements.get(&address).map(|element| element.kind)
     }
 
-    pub fn lowest_transport(&self) -> Option<u16> {
-        self.elements
-            .iter()
-            .find(|(_, element)| element.kind == Kind::Transport)
-            .map(|(&address, _)| address)
-    }
-
     pub fn contains_volume(&self, volume: u16) -> bool {
         self.elements
             .values()

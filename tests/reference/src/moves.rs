@@ -1,5 +1,6 @@
 //! MOVE MEDIUM and EXCHANGE MEDIUM.
 
+use crate::arms::{self, Arm};
 use crate::bytes::two;
 use crate::command::{
     Call, Outcome, Unsuccessful, DESTINATION_FULL, SOURCE_EMPTY, WRONG_ADDRESS, WRONG_CARTRIDGE,
@@ -8,7 +9,7 @@ use crate::library::{Carried, Element, Kind, Library};
 use crate::rules::Mutation;
 
 pub(crate) fn move_medium(library: &mut Library, call: &Call) -> Outcome {
-    let transport = transport_used(library, call)?;
+    let arm = arms::used(library, call)?;
     let source = place_named(library, call, 4)?;
     let destination = place_named(library, call, 6)?;
     let is_full = |address: u16| library.elements[&address].is_full();
@@ -17,7 +18,7 @@ pub(crate) fn move_medium(library: &mut Library, call: &Call) -> Outcome {
         occupied: is_full(destination),
         wrong_cartridge: !may_go(library, call, source, destination),
     };
-    judge_touched(library, call, &[transport, source, destination], occupancy)?;
+    judge_touched(library, call, arm, &[source, destination], occupancy)?;
 
     let marked = library.elements[&source].hand_mark;
     let lifted = lift(library, call, source);
@@ -29,7 +30,7 @@ pub(crate) fn move_medium(library: &mut Library, call: &Call) -> Outcome {
 }
 
 pub(crate) fn exchange_medium(library: &mut Library, call: &Call) -> Outcome {
-    let transport = transport_used(library, call)?;
+    let arm = arms::used(library, call)?;
     let source = place_named(library, call, 4)?;
     let first = place_named(library, call, 6)?;
     let second = place_named(library, call, 8)?;
@@ -44,10 +45,9 @@ pub(crate) fn exchange_medium(library: &mut Library, call: &Call) -> Outcome {
         occupied: is_full(second) && !back_to_source,
         wrong_cartridge: !legs_may_go(library, call, [source, first, second]),
     };
-    let touched = [transport, source, first, second];
-    judge_touched(library, call, &touched, occupancy)?;
-
     let places = [source, first, second];
+    judge_touched(library, call, arm, &places, occupancy)?;
+
     match call.rules.mutation {
         Some(Mutation::SwapWritesSourceBeforeReadingIt) => {
             write_before_reading(library, call, places);
@@ -60,17 +60,6 @@ pub(crate) fn exchange_medium(library: &mut Library, call: &Call) -> Outcome {
         place(library, second).leave();
     }
     Ok(Vec::new())
-}
-
-/// "Transport 0 means the lowest-addressed one; any other must be a transport."
-fn transport_used(library: &Library, call: &Call) -> Result<u16, Unsuccessful> {
-    let named = two(call.block, 2);
-    let used = if named == 0 {
-        library.lowest_transport()
-    } else {
-        Some(named).filter(|&address| library.kind_at(address) == Some(Kind::Transport))
-    };
-    used.ok_or(WRONG_ADDRESS)
 }
 
 /// "Source and destination must be elements and no transport."
@@ -128,10 +117,11 @@ fn legs_may_go(library: &Library, call: &Call, [source, first, second]: [u16; 3]
     first_fits && (!second_judged || may_go(library, call, down, second))
 }
 
-/// Step 6, then steps 7 and 8, and the cartridges. The transport stands first in `touched`.
+/// Step 6, then steps 7 and 8, and the cartridges.
 fn judge_touched(
     library: &Library,
     call: &Call,
+    arm: Arm,
     touched: &[u16],
     occupancy: impl Fn() -> Occupancy,
 ) -> Result<(), Unsuccessful> {
@@ -141,15 +131,16 @@ fn judge_touched(
     if call.broken_by(Mutation::CartridgeBeforeHolders) && occupancy().wrong_cartridge {
         return Err(WRONG_CARTRIDGE);
     }
-    let skips_transport =
-        call.broken_by(Mutation::HolderOfTransportZeroIgnored) && two(call.block, 2) == 0;
     let prevented =
         call.broken_by(Mutation::PreventionHindersMoves) && !library.preventing.is_empty();
-    let conflict = touched
+    let held = touched
         .iter()
-        .skip(usize::from(skips_transport))
         .any(|address| library.elements[address].held_by_another(call.host));
-    if conflict || prevented {
+    let no_arm = !arms::is_open(library, call, arm);
+    if no_arm && call.broken_by(Mutation::NoFreeArmAfterOccupancy) {
+        occupancy().judge(call)?;
+    }
+    if held || no_arm || prevented {
         return Err(Unsuccessful::ReservationConflict);
     }
     occupancy().judge(call)

@@ -242,13 +242,12 @@ enum Recorded {
 impl Recorded {
     /// "Answers aren't kept, so number 5 doesn't arise."
     fn make(&self, reference: &Reference, tables: Tables) -> Reply {
-        let lenient = Reference {
-            rules: Rules::with(Mutation::AnyCartridgeTaken),
+        let of_lines = match reference.rules.mutation {
+            Some(Mutation::ReplayTakesAnyCartridge) => Rules::with(Mutation::AnyCartridgeTaken),
+            Some(Mutation::ReplayUsesTheFirstArm) => Rules::with(Mutation::FirstArmAlways),
+            _ => reference.rules,
         };
-        let reference = match reference.rules.mutation {
-            Some(Mutation::ReplayTakesAnyCartridge) => &lenient,
-            _ => reference,
-        };
+        let reference = &Reference { rules: of_lines };
         let room = match reference.rules.broken_by(Mutation::AnswersNeedRoom) {
             true => 0,
             false => LARGEST_ANSWER,

@@ -32,7 +32,6 @@ pub enum Mutation {
 
     // Moves.
     MarkLeftAfterMove,
-    HolderOfTransportZeroIgnored,
     OccupancyBeforeHolders,
     PreventionHindersMoves,
     SwapWritesSourceBeforeReadingIt,
@@ -89,6 +88,23 @@ pub enum Mutation {
     ImportNeedsADrive,
     AnyCartridgeTaken,
     ReplayTakesAnyCartridge,
+
+    // Any free arm.
+    FirstArmAlways,
+    LastArmAlways,
+    FirstArmForMove,
+    FirstArmForExchange,
+    FirstArmsAloneLookedAt,
+    LastArmNotLookedAt,
+    OwnArmPassedOver,
+    UnheldArmPassedOver,
+    HoldersFromTheTableStart,
+    NamedArmReplaced,
+    NoFreeArmLetThrough,
+    NoFreeArmIsAWrongAddress,
+    NoFreeArmBeforeAddresses,
+    NoFreeArmAfterOccupancy,
+    ReplayUsesTheFirstArm,
 
     // Reservations.
     FailedReserveFreesOldId,
@@ -155,7 +171,7 @@ pub enum Mutation {
 impl Mutation {
     /// Every mutation but [`Mutation::NotJudged`].
     #[rustfmt::skip]
-    pub const SINGLE: [Mutation; 121] = [
+    pub const SINGLE: [Mutation; 135] = [
         Mutation::HostCutToOneByte,
         Mutation::EventAddressCutToTwoBytes,
         Mutation::ImportedVolumeCutToTwoBytes,
@@ -175,7 +191,6 @@ impl Mutation {
         Mutation::AttentionToldBeforeSense,
         Mutation::ToldSenseStays,
         Mutation::MarkLeftAfterMove,
-        Mutation::HolderOfTransportZeroIgnored,
         Mutation::OccupancyBeforeHolders,
         Mutation::PreventionHindersMoves,
         Mutation::SwapWritesSourceBeforeReadingIt,
@@ -226,6 +241,21 @@ impl Mutation {
         Mutation::ImportNeedsADrive,
         Mutation::AnyCartridgeTaken,
         Mutation::ReplayTakesAnyCartridge,
+        Mutation::FirstArmAlways,
+        Mutation::LastArmAlways,
+        Mutation::FirstArmForMove,
+        Mutation::FirstArmForExchange,
+        Mutation::FirstArmsAloneLookedAt,
+        Mutation::LastArmNotLookedAt,
+        Mutation::OwnArmPassedOver,
+        Mutation::UnheldArmPassedOver,
+        Mutation::HoldersFromTheTableStart,
+        Mutation::NamedArmReplaced,
+        Mutation::NoFreeArmLetThrough,
+        Mutation::NoFreeArmIsAWrongAddress,
+        Mutation::NoFreeArmBeforeAddresses,
+        Mutation::NoFreeArmAfterOccupancy,
+        Mutation::ReplayUsesTheFirstArm,
         Mutation::FailedReserveFreesOldId,
         Mutation::GrantedReserveKeepsOldId,
         Mutation::ElementNamedTwiceIsHeldOnce,

@@ -53,7 +53,7 @@ returns-3 c =
     let source = from .before .before in
     let arm = source .before .before .before in
     let transport = arm .before .before in (
-      at-yes _ _ _ _ _ _ (arm-by _ _ _ _ (transport .arm-of .ensures) (transport .before .word-at .ensures)) (arm .arm .given .1)
+      at-yes _ _ _ _ _ _ (arm-by _ _ _ _ _ _ (transport .arm-of .ensures) (transport .before .word-at .ensures)) (arm .arm .given .1)
           (place-yes _ _ _ _ _ _ (source .spot-of .ensures) (source .before .word-at2 .ensures) (from .if1 .left)
           (place-no _ _ _ _ _ _ (to .spot-of2 .ensures) (to .before .word-at3 .ensures) (c .if2 .taken) refl)),
       tt,
@@ -71,7 +71,7 @@ returns-4 c =
     let source = from .before .before in
     let arm = source .before .before .before in
     let transport = arm .before .before in (
-      at-yes _ _ _ _ _ _ (arm-by _ _ _ _ (transport .arm-of .ensures) (transport .before .word-at .ensures)) (arm .arm .given .1)
+      at-yes _ _ _ _ _ _ (arm-by _ _ _ _ _ _ (transport .arm-of .ensures) (transport .before .word-at .ensures)) (arm .arm .given .1)
           (place-yes _ _ _ _ _ _ (source .spot-of .ensures) (source .before .word-at2 .ensures) (from .if1 .left)
           (place-yes _ _ _ _ _ _ (to .spot-of2 .ensures) (to .before .word-at3 .ensures) (told .if2 .left) (c .move-at .ensures .0))),
       c .move-at .ensures .1,

@@ -1,7 +1,8 @@
-//! Document 01, and requests One, Two and Four to Six of document 02, against the reference and the built library. Every expected value is written out by hand.
+//! Document 01, and requests One, Two and Four to Seven of document 02, against the reference and the built library. Every expected value is written out by hand.
 
 mod fixture;
 
+mod arms;
 mod cartridges;
 mod entries;
 mod events;

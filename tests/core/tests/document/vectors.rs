@@ -23,6 +23,7 @@ const SHELF_1: usize = 0;
 const SHELF_2: usize = 1;
 const DRIVE_6001: usize = 81;
 const TRANSPORT_8001: usize = 83;
+const TRANSPORT_8002: usize = 84;
 
 fn read_all(library: &mut Library, tags: u8, allocation: [u8; 3]) -> Answered {
     let [a, b, c] = allocation;
@@ -72,14 +73,17 @@ fn vector_2_exchange_from_shelf_to_drive_to_shelf() {
 }
 
 #[test]
-fn transport_0_is_the_lowest_addressed_and_its_holder_counts() {
+fn transport_0_is_the_lowest_addressed_that_no_other_host_holds() {
     let mut library = gx80();
     library.set_element(SHELF_1, VOLUME_1);
     library.hold(TRANSPORT_8001, 2, 0);
-    library.expect_conflict(1, &move_block(1, 2), &[]);
-    let mut by_8002 = move_block(1, 2);
-    by_8002[2..4].copy_from_slice(&[0x1F, 0x42]);
-    assert_eq!(library.command(1, &by_8002).reply, GOOD);
+    let mut by_8001 = move_block(1, 2);
+    by_8001[2..4].copy_from_slice(&[0x1F, 0x41]);
+    library.expect_conflict(1, &by_8001, &[]);
+    assert_eq!(library.command(1, &move_block(1, 2)).reply, GOOD);
+    library.hold(TRANSPORT_8002, 3, 0);
+    library.expect_conflict(1, &move_block(2, 1), &[]);
+    assert_eq!(library.command(2, &move_block(2, 1)).reply, GOOD);
 }
 
 #[test]

@@ -1,5 +1,6 @@
 //! What a run goes through, round after round until its calls are used up.
 
+mod arms;
 mod blocks;
 mod cartridges;
 mod cuts;
@@ -27,7 +28,7 @@ macro_rules! named {
     ($($family:ident::$name:ident),* $(,)?) => { [$((stringify!($name), $family::$name as Scenario)),*] };
 }
 
-const SCENARIOS: [(&str, Scenario); 46] = named![
+const SCENARIOS: [(&str, Scenario); 49] = named![
     libraries::small_library,
     libraries::plausible_calls,
     libraries::history,
@@ -43,6 +44,9 @@ const SCENARIOS: [(&str, Scenario); 46] = named![
     cartridges::order_of_refusals,
     cartridges::unfit_tables,
     cartridges::imports_and_replays,
+    arms::each_holder,
+    arms::whatever_is_wrong_besides,
+    arms::replayed,
     blocks::early_steps,
     unsound::each_clause_broken,
     unsound::pairs_of_clauses_broken,

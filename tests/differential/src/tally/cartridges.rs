@@ -136,9 +136,12 @@ pub(super) fn untold(
     block: &[u8],
     earlier: Earlier,
 ) -> Option<Outcome> {
-    let moves = [0xA5, 0xA6].map(First::Known).contains(&first);
-    let unfit = moves && shut(before, first, block).iter().any(Option::is_some);
-    unfit.then_some(Outcome::Untold(first, earlier))
+    any_unfit(before, first, block).then_some(Outcome::Untold(first, earlier))
+}
+
+/// Whether a drive would not take a volume of a MOVE or an EXCHANGE.
+pub(super) fn any_unfit(before: &TableBytes, first: First, block: &[u8]) -> bool {
+    shut(before, first, block).iter().any(Option::is_some)
 }
 
 /// An import that ended with number 0: whether there are drives, and none that takes the volume.

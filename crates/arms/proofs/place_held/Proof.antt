@@ -1,10 +1,10 @@
--- `moves::place_held` meets its contract. Assumes nothing.
+-- `arms::place_held` meets its contract. Assumes nothing.
 use mathlib.Core.Path.{ap, _∙_}
 use Rattle.rules.specs.Tables.{places}
 use Rattle.rules.specs.Order.{other}
 use borrow.Author.Needs.{needs}
-use Rattle.moves.proofs.place_held.Statement.{statement}
-use Rattle.moves.proofs.place_held.Tie as tie
+use Rattle.arms.proofs.place_held.Statement.{statement}
+use Rattle.arms.proofs.place_held.Tie as tie
 
 holder-requires : tie.Need-holder-requires
 unfolding places
