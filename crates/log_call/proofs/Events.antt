@@ -14,10 +14,10 @@ use Rattle.rules.specs.Events.{importing, exporting, resetting}
 use Rattle.rules.specs.Log.{Entry, eventOf}
 use Rattle.rules.specs.Replay.{answerless, afterLine, idle, turnOn}
 use Rattle.rules.proofs.Ladder.{differ-is, differ-not, when-true}
+use Rattle.log_steps.proofs.Ends.{left-by}
 use Rattle.log_call.specs.declared.Event.{Event}
 use Rattle.log_call.specs.declared.Event.the-variants as event
 use Rattle.log_call.specs.Event.{recorded}
-use Rattle.log_call.proofs.Commands.{left-by}
 
 -- ---- the form
 

@@ -1,6 +1,5 @@
 // What a recorded line does: a command whose answer is not kept, or an event. The tables are sound, and are not checked here.
 use log_line::Read;
-use operation::Operation;
 use tables::Range;
 ghost use mathlib.Core.Path.{_≡_};
 ghost use mathlib.Core.List.{[]};
@@ -10,10 +9,9 @@ ghost use lib.ListN.{length};
 ghost use Rattle.rules.specs.Tables.{lent, others, Rest};
 ghost use Rattle.rules.specs.Sound.{sound};
 ghost use Rattle.rules.specs.Command.{Command};
-ghost use Rattle.rules.specs.Muted.{mutedBy};
 ghost use Rattle.rules.specs.Log.{eventOf, entryOf};
 ghost use Rattle.rules.specs.Replay.{afterLine, turnOn, turn as turnOf};
-ghost use Rattle.operation.specs.Meaning.{meaning, Fitting};
+ghost use Rattle.moves.specs.Judged.{Ready};
 ghost use Rattle.ports.specs.Judged.{Importable};
 ghost use Rattle.log_call.specs.Event.{recorded};
 ghost use Rattle.log_call.specs.Turned.{Kept, turned, Taken};
@@ -39,40 +37,19 @@ const EXPORT: u8 = 0x02;
 
 const RESET: u8 = 0x03;
 
-// "Answers aren't kept": a block with allocation 0, which returns no bytes.
-fn mute(op: Operation, block: &mut [u8])
-    requires { ⌜ Fitting op (now block) ⌝ }
-    ensures { λ _. ⌜ now (block .exit) ≡ mutedBy (meaning op) (now (block .entry)) ⌝ }
-{
-    match op {
-        Operation::TestUnitReady => {}
-        Operation::RequestSense => block[4] = 0,
-        Operation::Reserve => {}
-        Operation::Release => {}
-        Operation::PreventAllow => {}
-        Operation::MoveMedium => {}
-        Operation::ExchangeMedium => {}
-        Operation::ReadElementStatus => wire::put_three(block, 7, 0, 0, 0),
-        Operation::ModeSense => block[4] = 0,
-        Operation::Unknown => {}
-    }
-}
-
 // House numbers 2 to 4, then the steps.
 fn obey<'a>(
     runs: [Range; 4],
     head: &mut [u8],
     elements: &mut [u8],
-    tags: &'a [u8],
-    blank: &'a [u8],
     generations: &'a [u8],
     masks: &'a [u8],
     host: u8,
-    block: &mut [u8],
+    block: &[u8],
     list: &[u8],
 )
-    requires { ⌜ Kept runs (now head) (now elements) (others (now tags) (now blank) (now generations) (now masks)) ⌝ }
-    ensures { λ _. ⌜ lent (now (head .exit)) (now (elements .exit)) (others (now (tags .entry)) (now (blank .entry)) (now (generations .entry)) (now (masks .entry))) ≡ afterLine (lent (now (head .entry)) (now (elements .entry)) (others (now (tags .entry)) (now (blank .entry)) (now (generations .entry)) (now (masks .entry)))) (Command (record { host = host; block = now (block .entry); parameters = now (list .entry); buffer = [] })) ⌝ }
+    requires { ⌜ Ready runs (now head) (now elements) ⌝ }
+    ensures { λ _. ⌜ ((rest : Rest) → rest .generations ≡ now (generations .entry) → rest .masks ≡ now (masks .entry) → sound (lent (now (head .entry)) (now (elements .entry)) rest) ≡ true → lent (now (head .exit)) (now (elements .exit)) rest ≡ afterLine (lent (now (head .entry)) (now (elements .entry)) rest) (Command (record { host = host; block = now (block .entry); parameters = now (list .entry); buffer = [] }))) ⌝ }
 {
     if !numbers::known_host(host as u32) {
         return;
@@ -84,21 +61,16 @@ fn obey<'a>(
     if !numbers::parameters_fit(op, block, list) {
         return;
     }
-    mute(op, block);
-    let mut answer = [0u8; 1];
-    steps::steps(
+    log_steps::carry_out(
         op,
         runs,
         head,
         elements,
-        tags,
-        blank,
         generations,
         masks,
         host,
         block,
         list,
-        &mut answer,
     );
 }
 
@@ -162,7 +134,7 @@ fn carry<'a>(
     generations: &'a [u8],
     masks: &'a [u8],
     host: u8,
-    block: &mut [u8],
+    block: &[u8],
     list: &[u8],
 ) -> bool
     requires { ⌜ Kept runs (now head) (now elements) (others (now tags) (now blank) (now generations) (now masks)) ⌝ }
@@ -172,18 +144,7 @@ fn carry<'a>(
         let event = event_of(block, list);
         return occur(runs, head, elements, tags, event);
     }
-    obey(
-        runs,
-        head,
-        elements,
-        tags,
-        blank,
-        generations,
-        masks,
-        host,
-        block,
-        list,
-    );
+    obey(runs, head, elements, generations, masks, host, block, list);
     true
 }
 
@@ -227,7 +188,7 @@ pub fn turn<'a>(
                 generations,
                 masks,
                 host,
-                &mut block[..b],
+                &block[..b],
                 &list[..l],
             ) {
                 return Turned::Stopped;

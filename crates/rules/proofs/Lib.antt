@@ -37,7 +37,6 @@ pub mod Shelves
 pub mod Rungs
 pub mod Loops
 pub mod Header
-pub mod Muting
 pub mod Ranged
 pub mod Given
 pub mod Answerless

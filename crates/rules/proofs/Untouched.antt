@@ -21,7 +21,7 @@ use Rattle.rules.specs.Sense.{requestSense}
 use Rattle.rules.specs.Listing.{readStatus}
 use Rattle.rules.specs.Mode.{modeSense}
 use Rattle.rules.specs.Events.{atPort, done, importing, exporting, resetting}
-use Rattle.rules.specs.Command.{Request, Call, Command, Import, Export, Reset, act, stepsOf, steps, afterNumbers, judged, judge, verdict, bufferOf, serve}
+use Rattle.rules.specs.Command.{Request, Call, Command, Import, Export, Reset, act, steps, afterNumbers, judged, judge, verdict, bufferOf, serve}
 use Rattle.rules.proofs.Ladder.{on, either}
 use Rattle.rules.proofs.Walks.{Refusals, telling, refused-by, steps-by, move-by, exchange-by, reserve-by, release-by}
 use Rattle.rules.proofs.Writes.{put-length, byte-put}
@@ -216,13 +216,11 @@ module _ (Q : ℕ → Type 0) where
   ends-act ModeSense t h block list = ends-mode Q t h block
   ends-act Unknown t h block list = ends-refusals Q false h t .refuses InvalidOperation
 
-  ends-steps-of : (op : Operation) (t : Tables) (h : ℕ) (block list : List ℕ) → Ends Q (reads op) h (stepsOf op t h block list)
-  ends-steps-of op t h block list =
-      steps-by (Ends Q (reads op) h) t h (ends-refusals Q (reads op) h t) op block list (λ _. ends-act op t h block list)
-
   ends-steps : (t : Tables) (h : ℕ) (block list : List ℕ) → Ends Q (reading block) h (steps t h block list)
   unfolding steps
-  ends-steps t h block list = ends-steps-of (operation block) t h block list
+  ends-steps t h block list =
+      steps-by (Ends Q (reading block) h) t h (ends-refusals Q (reading block) h t) (operation block) block list
+      (λ _. ends-act (operation block) t h block list)
 
   ends-fits : (reads : Bool) (h : ℕ) (buffer : List ℕ) (v : Verdict) → Q 5 → Ends Q reads h v → Ends Q reads h (fits buffer v)
   unfolding fits
@@ -434,10 +432,3 @@ module _ (t : Tables) (h : ℕ) (block buffer : List ℕ) where
 
   pub refused-fits : (c : Cause) → fits buffer (refused h c) ≡ refused h c
   refused-fits c = fits-silent h buffer _ (ends-refusals _ false h t .refuses c)
-
--- and for every command but the three that read
-pub steps-fits : (op : Operation) (t : Tables) (h : ℕ) (buffer block list : List ℕ) → reads op ≡ false
-    → fits buffer (stepsOf op t h block list) ≡ stepsOf op t h block list
-steps-fits op t h buffer block list e =
-    let s : Ends (λ _. Unit {0}) (reads op) h (stepsOf op t h block list) = ends-steps-of (λ _. Unit {0}) op t h block list in
-    fits-silent h buffer _ (rw e at s)

@@ -19,7 +19,6 @@ pub mod Numbers
 pub mod Histories
 pub mod Log
 pub mod Replay
-pub mod Muted
 pub mod Shelves
 pub mod Small
 pub mod Cases

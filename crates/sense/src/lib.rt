@@ -22,7 +22,7 @@ pub enum Ruling {
 }
 
 // "If no sense is stored but attention is, that"
-fn tells_attention(head: &[u8], host: u8) -> bool
+pub fn tells_attention(head: &[u8], host: u8) -> bool
     requires { ⌜ headSize ≤ length (now head) ⌝ }
     requires { ⌜ host ≤ hosts ⌝ }
     ensures { λ r. ⌜ r ≡ tellsAttention (now (head .entry)) host ⌝ }

@@ -17,7 +17,7 @@ ghost use Rattle.operation.specs.Meaning.{meaning};
 ghost use Rattle.steps.specs.Suited.{Served};
 
 // "6 with its codes, attention cleared", whatever would come after.
-fn report_attention(head: &mut [u8], host: u8) -> Reply
+pub fn report_attention(head: &mut [u8], host: u8) -> Reply
     requires { ⌜ headSize ≤ length (now head) ⌝ }
     requires { ⌜ host ≤ hosts ⌝ }
     requires { ⌜ (attention (now head) host ≡ 0 → ⊥) ⌝ }

@@ -1,9 +1,9 @@
 -- `log_call::turn` meets its contract. Assumes nothing.
-use borrow.Author.Needs.{needs}
 use native.Mathlib.Omega.{arith}
 use borrow.Author.Tests.{not-true, not-false}
 use Rattle.rules.specs.Tables.{lent}
 use Rattle.log_call.proofs.Lines.{stopped-takes, held, block-long, list-long, takes, another-form, another-number, not-carried, was-carried}
+use borrow.Author.Needs.{needs}
 use Rattle.log_call.proofs.turn.Statement.{statement}
 use Rattle.log_call.proofs.turn.Tie as tie
 
@@ -28,8 +28,8 @@ returns c =
     let read = number .before .before .before .before .before .before in
     (another-number _ _ _ _ (read .read-line .ensures .0) (read .read-line .ensures .1) (lent _ _ _) _ _ _ _ _ _ (number .number .given .1) (c .if1 .taken), stopped-takes _)
 
-slice-relend-prefix-carry : tie.Need-slice-relend-prefix-carry
-slice-relend-prefix-carry c =
+slice-reshare-prefix-carry : tie.Need-slice-reshare-prefix-carry
+slice-reshare-prefix-carry c =
     let number = c .before .before .before .before in
     let read = number .before .before .before .before .before .before in
     held _ _ _ _ (read .read-line .ensures .0) (read .read-line .ensures .1) _ _ _ _ _ (number .number .given .1) .block-held
@@ -40,8 +40,8 @@ slice-aggregate-carry c =
     let read = number .before .before .before .before .before .before in
     block-long _ _ _ _ (read .read-line .ensures .0) (read .read-line .ensures .1) _ _ _ _ _ (number .number .given .1)
 
-slice-reshare-prefix-carry : tie.Need-slice-reshare-prefix-carry
-slice-reshare-prefix-carry c =
+slice-reshare-prefix-carry-2 : tie.Need-slice-reshare-prefix-carry-2
+slice-reshare-prefix-carry-2 c =
     let number = c .before .before .before .before .before in
     let read = number .before .before .before .before .before .before in
     held _ _ _ _ (read .read-line .ensures .0) (read .read-line .ensures .1) _ _ _ _ _ (number .number .given .1) .list-held
@@ -69,7 +69,7 @@ same-length-6 c = search needs
 
 returns-2 : tie.Need-returns-2
 returns-2 c =
-    let carry = c .before .before .before .before .before .before .before in
+    let carry = c .before .before .before .before .before in
     let no1 = carry .before .before .before .before .before in
     let number = no1 .before .before in
     let read = number .before .before .before .before .before .before in
@@ -77,7 +77,7 @@ returns-2 c =
 
 add-t33 : tie.Need-add-t33
 add-t33 c =
-    let carry = c .before .before .before .before .before .before .before in
+    let carry = c .before .before .before .before .before in
     let no1 = carry .before .before .before .before .before in
     let number = no1 .before .before in
     let read = number .before .before .before .before .before .before in
@@ -109,7 +109,7 @@ same-length-12 c = search needs
 
 returns-4 : tie.Need-returns-4
 returns-4 c =
-    let carry = c .before .before .before .before .before .before .before in
+    let carry = c .before .before .before .before .before in
     let no1 = carry .before .before .before .before .before in
     let number = no1 .before .before in
     let read = number .before .before .before .before .before .before in
@@ -125,9 +125,9 @@ turn-spec =
     same-length
     same-length-2
     returns
-    slice-relend-prefix-carry
-    slice-aggregate-carry
     slice-reshare-prefix-carry
+    slice-aggregate-carry
+    slice-reshare-prefix-carry-2
     slice-aggregate-carry-2
     carry-requires
     same-length-3
