@@ -13,6 +13,7 @@ ghost use Rattle.rules.specs.Log.{eventOf, entryOf};
 ghost use Rattle.rules.specs.Replay.{afterLine, turnOn, turn as turnOf};
 ghost use Rattle.moves.specs.Judged.{Ready};
 ghost use Rattle.ports.specs.Judged.{Importable};
+ghost use Rattle.log_line.specs.Table.{Tabled};
 ghost use Rattle.log_call.specs.Event.{recorded};
 ghost use Rattle.log_call.specs.Turned.{Kept, turned, Taken};
 
@@ -157,17 +158,19 @@ pub fn turn<'a>(
     blank: &'a [u8],
     generations: &'a [u8],
     masks: &'a [u8],
+    digits: &[u8],
     expected: u32,
     text: &[u8],
     block: &mut [u8],
     list: &mut [u8],
 ) -> Turned
     requires { ⌜ Kept runs (now head) (now elements) (others (now tags) (now blank) (now generations) (now masks)) ⌝ }
+    requires { ⌜ Tabled (now digits) ⌝ }
     requires { ⌜ (256 ≤ length (now block)) × (256 ≤ length (now list)) ⌝ }
     ensures { λ r. ⌜ turned r (lent (now (head .exit)) (now (elements .exit)) (others (now (tags .entry)) (now (blank .entry)) (now (generations .entry)) (now (masks .entry)))) ≡ turnOf (lent (now (head .entry)) (now (elements .entry)) (others (now (tags .entry)) (now (blank .entry)) (now (generations .entry)) (now (masks .entry)))) expected (now (text .entry)) ⌝ }
     ensures { λ r. ⌜ Taken r (now (text .entry)) ⌝ }
 {
-    match log_line::read_line(text, block, list) {
+    match log_line::read_line(digits, text, block, list) {
         Read::Other => Turned::Stopped,
         Read::Entry {
             number,

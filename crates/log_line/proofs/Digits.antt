@@ -129,26 +129,29 @@ module _ (m : ℕ) (none : 15 < digit m) (s out : List ℕ) (n i : ℕ) (inv : D
           decoded = sym (inv .bytes ∙ rw (z, half) (unfold bytesOf in append-nil (take n out)));
         }
 
-    module _ (other : getD s i 0 ≡ m → ⊥) (x : ℕ) (is : x ≡ digit (getD s i 0)) where
-      pub no-high : 15 < x → Decoded m s out Bad
-      no-high k = bad (rw (one-at s i h) (at-none m _ _ other (rw is at k)))
+    pub alone : i + 1 ≡ length s → (getD s i 0 ≡ m → ⊥) → Decoded m s out Bad
+    alone e other = bad (rw (one-at s i h) (at-end m _ _ other (rw (none-at s (i + 1) e) refl)))
 
-      pub alone : i + 1 ≡ length s → Decoded m s out Bad
-      alone e = bad (rw (one-at s i h) (at-end m _ _ other (rw (none-at s (i + 1) e) refl)))
+    module _ (x : ℕ) (is : x ≡ digit (getD s i 0)) where
+      pub no-high : 15 < x → (getD s i 0 ≡ m → ⊥) → Decoded m s out Bad
+      no-high k other = bad (rw (one-at s i h) (at-none m _ _ other (rw is at k)))
 
-      module _ (more : i + 1 ≡ length s → ⊥) (y : ℕ) (also : y ≡ digit (getD s (i + 1) 0)) where
+      module _ (hx : x ≤ 15) (more : i + 1 < length s) (y : ℕ) (also : y ≡ digit (getD s (i + 1) 0)) where
+        other : getD s i 0 ≢ m
+        other = marks-not m _ x none is hx
+
         two : drop i s ≡ getD s i 0 ∷ getD s (i + 1) 0 ∷ drop (i + 1 + 1) s
-        two = two-at s i (let k : i + 1 ≢ length s = more in omega arith)
+        two = two-at s i more
 
         pub no-low : 15 < y → Decoded m s out Bad
         no-low k = bad (rw two (at-low-none m _ _ _ other (rw also at k)))
 
-        pub goes-on : x ≤ 15 → y ≤ 15 → n < length out → Decoding m s (set out n (x * 16 + y)) (n + 1) (i + 1 + 1)
-        goes-on hx hy room =
+        pub goes-on : y ≤ 15 → n < length out → (j : ℕ) → j ≡ i + 1 + 1 → Decoding m s (set out n (x * 16 + y)) (n + 1) j
+        goes-on hy room j at =
             let ny : getD s (i + 1) 0 ≢ m = marks-not m _ y none also hy in
             let f : firstOf m (drop i s) ≡ suc (suc (firstOf m (drop (i + 1 + 1) s))) = rw two (two-on m _ _ _ other ny) in
             let b : bytesOf (before m (drop i s)) ≡ (x * 16 + y) ∷ bytesOf (before m (drop (i + 1 + 1) s)) = rw (two, is, also) (bytes-on m _ _ _ other ny) in
-            let k : i + 1 ≢ length s = more in
+            rw at
             record {
               even = omega (arith, inv .even);
               inside = omega arith;

@@ -1,4 +1,5 @@
 pub mod Text
+pub mod Table
 pub mod Numbers
 pub mod Digits
 pub mod Forms

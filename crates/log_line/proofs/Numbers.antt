@@ -1,7 +1,7 @@
 -- The sequence number of a line, one digit at a time. Assumes nothing.
 use Prim.Native.Nat.{ℕ, suc, _+_, _*_, _<_, _≤_}
 use native.Mathlib.Omega.{arith}
-use mathlib.Core.Path.{_≡_, refl, sym, _∙_}
+use mathlib.Core.Path.{_≡_, refl, sym, ap, _∙_}
 use mathlib.Core.Logic.{_≢_}
 use mathlib.Core.Bool.{Bool}
 use mathlib.Core.List.{List, [], _∷_}
@@ -15,6 +15,7 @@ use Rattle.rules.specs.Log.{TAB, firstOf, before, digit, numberFrom, numberOf}
 use Rattle.rules.proofs.Ladder.{on, either, when-true, when-false}
 use Rattle.log_line.specs.Fields.{Numbered, numberTo}
 use Rattle.log_line.proofs.Text.{first-mark, first-next, one-at, none-at}
+use Rattle.log_line.proofs.Feeds.{tab-none}
 
 -- the digits before a tab, behind the number n; 0 where no tab stands behind them
 unfoldable pub digitsTo : List ℕ → ℕ → ℕ
@@ -103,23 +104,26 @@ module _ (s : List ℕ) (n i : ℕ) (inv : Counting s n i) where
         let v : numberTo s ≡ n = inv .whole ∙ rw (one-at s i h) (at-tab _ _ n e) in
         record { value-is = sym v; parted = λ _. record { first = omega (arith, inv .first); inside = h } }
 
-    module _ (m : getD s i 0 ≡ TAB → ⊥) (d : ℕ) (is : d ≡ digit (getD s i 0)) where
-      here : numberTo s ≡ when (ltb 9 d) 0 (when (ltb 999999999 (n * 10 + d)) 0 (digitsTo (drop (i + 1) s) (n * 10 + d)))
-      here = inv .whole ∙ rw (one-at s i h, is) (at-digit _ _ n m)
+    module _ (d : ℕ) (is : d ≡ digit (getD s i 0)) where
+      here : getD s i 0 ≢ TAB → numberTo s ≡ when (ltb 9 d) 0 (when (ltb 999999999 (n * 10 + d)) 0 (digitsTo (drop (i + 1) s) (n * 10 + d)))
+      here m = inv .whole ∙ rw (one-at s i h, is) (at-digit _ _ n m)
 
-      pub no-digit : 9 < d → numberTo s ≡ 0
-      no-digit l = here ∙ when-true _ _ _ (lt-ltb _ _ l)
+      pub no-digit : 9 < d → (getD s i 0 ≡ TAB → ⊥) → numberTo s ≡ 0
+      no-digit l m = here m ∙ when-true _ _ _ (lt-ltb _ _ l)
 
       module _ (small : d ≤ 9) where
+        no-tab : getD s i 0 ≢ TAB
+        no-tab e = omega (arith, is, ap digit e, tab-none)
+
         pub too-large : 999999999 < n * 10 + d → numberTo s ≡ 0
-        too-large l = here ∙ when-false _ _ _ (le-ltb _ _ small) ∙ when-true _ _ _ (lt-ltb _ _ l)
+        too-large l = here no-tab ∙ when-false _ _ _ (le-ltb _ _ small) ∙ when-true _ _ _ (lt-ltb _ _ l)
 
         pub goes-on : n * 10 + d ≤ 999999999 → Counting s (n * 10 + d) (i + 1)
         goes-on l =
-            let f : firstOf TAB (drop i s) ≡ suc (firstOf TAB (drop (i + 1) s)) = rw (one-at s i h) (first-next TAB _ _ m) in
+            let f : firstOf TAB (drop i s) ≡ suc (firstOf TAB (drop (i + 1) s)) = rw (one-at s i h) (first-next TAB _ _ no-tab) in
             record {
               inside = omega arith;
               low = l;
               first = omega (arith, inv .first);
-              whole = here ∙ when-false _ _ _ (le-ltb _ _ small) ∙ when-false _ _ _ (le-ltb _ _ l);
+              whole = here no-tab ∙ when-false _ _ _ (le-ltb _ _ small) ∙ when-false _ _ _ (le-ltb _ _ l);
             }

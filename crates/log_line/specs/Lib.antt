@@ -1,3 +1,4 @@
 pub mod Rungs
 pub mod Fields
 pub mod Read
+pub mod Table

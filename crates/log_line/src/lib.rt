@@ -3,6 +3,7 @@ ghost use mathlib.Core.Path.{_≡_};
 ghost use Prim.Native.Nat.{_+_, _*_, _<_, _≤_};
 ghost use lib.ListN.{length, drop};
 ghost use Rattle.rules.specs.Log.{digit as digitOf, lineOf};
+ghost use Rattle.log_line.specs.Table.{Tabled};
 ghost use Rattle.log_line.specs.Fields.{Numbered, Decoded};
 ghost use Rattle.log_line.specs.Rungs.{here, afterHost, afterNumber, firstLine};
 ghost use Rattle.log_line.specs.Read.{meant, Room, Within};
@@ -62,6 +63,26 @@ fn digit(b: u8) -> u8
     NONE
 }
 
+// The values of all bytes as digits, one behind the other: made once, and lent to every line.
+pub fn tabulate(digits: &mut [u8])
+    requires { ⌜ length (now digits) ≡ 256 ⌝ }
+    ensures { λ _. ⌜ Tabled (now (digits .exit)) ⌝ }
+{
+    let mut b: usize = 0;
+    while b < 256 {
+        digits[b] = digit(b as u8);
+        b += 1;
+    }
+}
+
+// The value of a digit, looked up.
+fn value_of(digits: &[u8], b: u8) -> u8
+    requires { ⌜ Tabled (now digits) ⌝ }
+    ensures { λ r. ⌜ r ≡ digitOf b ⌝ }
+{
+    digits[b as usize]
+}
+
 fn no_number() -> Sequence
     ensures { λ r. ⌜ r .value ≡ 0 ⌝ }
 {
@@ -69,7 +90,8 @@ fn no_number() -> Sequence
 }
 
 // "sequence number (decimal, 1 to 999,999,999, no leading zero)", up to a tab.
-fn number(text: &[u8]) -> Sequence
+fn number(digits: &[u8], text: &[u8]) -> Sequence
+    requires { ⌜ Tabled (now digits) ⌝ }
     ensures { λ r. ⌜ Numbered (now (text .entry)) (r .value) (r .end) ⌝ }
 {
     if text.len() == 0 {
@@ -82,15 +104,15 @@ fn number(text: &[u8]) -> Sequence
     let mut i: usize = 0;
     while i < text.len() {
         let b = text[i];
-        if b == TAB {
+        let d = value_of(digits, b);
+        if 9 < d {
+            if b != TAB {
+                return no_number();
+            }
             return Sequence {
                 value: n as u32,
                 end: i,
             };
-        }
-        let d = digit(b);
-        if 9 < d {
-            return no_number();
         }
         n = n * 10 + (d as u64);
         if LARGEST < n {
@@ -101,39 +123,44 @@ fn number(text: &[u8]) -> Sequence
     no_number()
 }
 
-// "in upper-case hexadecimal", up to a mark: the bytes, to the front of `out`.
-fn decode(text: &[u8], mark: u8, out: &mut [u8]) -> Field
+// "in upper-case hexadecimal", up to a mark: the bytes, to the front of `out`. A mark is no digit, so it is looked for only where a digit is missing.
+fn decode(digits: &[u8], text: &[u8], mark: u8, out: &mut [u8]) -> Field
+    requires { ⌜ Tabled (now digits) ⌝ }
     requires { ⌜ (15 < digitOf mark) × (length (now text) ≤ 2 * length (now out) + 1) ⌝ }
     ensures { λ r. ⌜ Decoded mark (now (text .entry)) (now (out .exit)) r ⌝ }
 {
+    let pairs = text.len() / 2;
     let mut n: usize = 0;
-    let mut i: usize = 0;
-    while i < text.len() {
+    while n < pairs {
+        let i = n * 2;
         let b = text[i];
-        if b == mark {
-            return Field::To(i);
-        }
-        let high = digit(b);
+        let high = value_of(digits, b);
         if 15 < high {
+            if b == mark {
+                return Field::To(i);
+            }
             return Field::Bad;
         }
-        i += 1;
-        if i == text.len() {
-            return Field::Bad;
-        }
-        let low = digit(text[i]);
+        let low = value_of(digits, text[i + 1]);
         if 15 < low {
             return Field::Bad;
         }
         out[n] = high * 16 + low;
         n += 1;
-        i += 1;
     }
-    Field::Bad
+    let end = n * 2;
+    if end == text.len() {
+        return Field::Bad;
+    }
+    if text[end] != mark {
+        return Field::Bad;
+    }
+    Field::To(end)
 }
 
 // "command bytes, parameter bytes", from a place on
 fn after_host(
+    digits: &[u8],
     number: u32,
     host: u8,
     text: &[u8],
@@ -141,15 +168,16 @@ fn after_host(
     block: &mut [u8],
     list: &mut [u8],
 ) -> Read
+    requires { ⌜ Tabled (now digits) ⌝ }
     requires { ⌜ Room at (now text) (now block) (now list) ⌝ }
     ensures { λ r. ⌜ meant r (now (block .exit)) (now (list .exit)) ≡ here (afterHost number host) (drop at (now (text .entry))) ⌝ }
     ensures { λ r. ⌜ Within r at (now (text .entry)) (now (block .exit)) (now (list .exit)) ⌝ }
 {
-    let Field::To(command) = decode(&text[at..], TAB, block) else {
+    let Field::To(command) = decode(digits, &text[at..], TAB, block) else {
         return Read::Other;
     };
     let next = at + command + 1;
-    let Field::To(parameters) = decode(&text[next..], LINE_FEED, list) else {
+    let Field::To(parameters) = decode(digits, &text[next..], LINE_FEED, list) else {
         return Read::Other;
     };
     Read::Entry {
@@ -162,7 +190,15 @@ fn after_host(
 }
 
 // "host or 0 (one digit)", from a place on
-fn after_number(number: u32, text: &[u8], at: usize, block: &mut [u8], list: &mut [u8]) -> Read
+fn after_number(
+    digits: &[u8],
+    number: u32,
+    text: &[u8],
+    at: usize,
+    block: &mut [u8],
+    list: &mut [u8],
+) -> Read
+    requires { ⌜ Tabled (now digits) ⌝ }
     requires { ⌜ Room at (now text) (now block) (now list) ⌝ }
     ensures { λ r. ⌜ meant r (now (block .exit)) (now (list .exit)) ≡ here (afterNumber number) (drop at (now (text .entry))) ⌝ }
     ensures { λ r. ⌜ Within r at (now (text .entry)) (now (block .exit)) (now (list .exit)) ⌝ }
@@ -173,37 +209,39 @@ fn after_number(number: u32, text: &[u8], at: usize, block: &mut [u8], list: &mu
     if text.len() - at < 2 {
         return Read::Other;
     }
-    let host = digit(text[at]);
+    let host = value_of(digits, text[at]);
     if 9 < host {
         return Read::Other;
     }
     if text[at + 1] != TAB {
         return Read::Other;
     }
-    after_host(number, host, text, at + 2, block, list)
+    after_host(digits, number, host, text, at + 2, block, list)
 }
 
 // "four fields parted by tabs", and a line feed
-fn fields(text: &[u8], block: &mut [u8], list: &mut [u8]) -> Read
+fn fields(digits: &[u8], text: &[u8], block: &mut [u8], list: &mut [u8]) -> Read
+    requires { ⌜ Tabled (now digits) ⌝ }
     requires { ⌜ Room 0 (now text) (now block) (now list) ⌝ }
     ensures { λ r. ⌜ meant r (now (block .exit)) (now (list .exit)) ≡ here lineOf (now (text .entry)) ⌝ }
     ensures { λ r. ⌜ Within r 0 (now (text .entry)) (now (block .exit)) (now (list .exit)) ⌝ }
 {
-    let first = number(text);
+    let first = number(digits, text);
     let value = first.value;
     if value == 0 {
         return Read::Other;
     }
     let next = first.end + 1;
-    after_number(value, text, next, block, list)
+    after_number(digits, value, text, next, block, list)
 }
 
 // The line that a text begins with, "lines of at most 512 bytes and a line feed": no byte behind that is looked at.
-pub fn read_line(text: &[u8], block: &mut [u8], list: &mut [u8]) -> Read
+pub fn read_line(digits: &[u8], text: &[u8], block: &mut [u8], list: &mut [u8]) -> Read
+    requires { ⌜ Tabled (now digits) ⌝ }
     requires { ⌜ (256 ≤ length (now block)) × (256 ≤ length (now list)) ⌝ }
     ensures { λ r. ⌜ meant r (now (block .exit)) (now (list .exit)) ≡ firstLine (now (text .entry)) ⌝ }
     ensures { λ r. ⌜ Within r 0 (now (text .entry)) (now (block .exit)) (now (list .exit)) ⌝ }
 {
     let reach = wire::least(text.len(), LONGEST + 1);
-    fields(&text[..reach], block, list)
+    fields(digits, &text[..reach], block, list)
 }

@@ -4,6 +4,7 @@ use tables::Range;
 ghost use mathlib.Core.Path.{_≡_};
 ghost use Rattle.rules.specs.Tables.{lent, others};
 ghost use Rattle.rules.specs.Replay.{turns as turnsOf, replay as replayOf};
+ghost use Rattle.log_line.specs.Table.{Tabled};
 ghost use Rattle.log_call.specs.Turned.{Kept};
 ghost use Rattle.replay.specs.Ended.{ended};
 
@@ -39,11 +40,13 @@ fn turns<'a>(
     blank: &'a [u8],
     generations: &'a [u8],
     masks: &'a [u8],
+    digits: &[u8],
     log: &[u8],
     expected: u32,
     budget: u32,
 ) -> Replayed
     requires { ⌜ Kept runs (now head) (now elements) (others (now tags) (now blank) (now generations) (now masks)) ⌝ }
+    requires { ⌜ Tabled (now digits) ⌝ }
     ensures { λ r. ⌜ ended r (lent (now (head .exit)) (now (elements .exit)) (others (now (tags .entry)) (now (blank .entry)) (now (generations .entry)) (now (masks .entry)))) ≡ turnsOf budget (lent (now (head .entry)) (now (elements .entry)) (others (now (tags .entry)) (now (blank .entry)) (now (generations .entry)) (now (masks .entry)))) (now (log .entry)) expected ⌝ }
 {
     let mut block = [0u8; ROOM];
@@ -64,6 +67,7 @@ fn turns<'a>(
             blank,
             generations,
             masks,
+            digits,
             next,
             text,
             &mut block,
@@ -97,6 +101,8 @@ pub fn replay<'a>(
         return told(1, 0, 0, expected);
     }
     let runs = checked.runs;
+    let mut digits = [0u8; 256];
+    log_line::tabulate(&mut digits);
     turns(
         runs,
         head,
@@ -105,6 +111,7 @@ pub fn replay<'a>(
         blank,
         generations,
         masks,
+        &digits,
         log,
         expected,
         budget,

@@ -75,14 +75,14 @@ returns-2 c =
     let read = number .before .before .before .before .before .before in
     (not-carried _ _ _ _ (read .read-line .ensures .0) (read .read-line .ensures .1) (lent _ _ _) _ _ _ _ _ _ (number .number .given .1) (no1 .if1 .left) _ _ (carry .carry .ensures _) (not-true _ (c .if2 .taken)), stopped-takes _)
 
-add-t33 : tie.Need-add-t33
-add-t33 c =
+add-t34 : tie.Need-add-t34
+add-t34 c =
     let carry = c .before .before .before .before .before in
     let no1 = carry .before .before .before .before .before in
     let number = no1 .before .before in
     let read = number .before .before .before .before .before .before in
-    let start = read .before .before .before .before .before .before .before .before .before .before .before .before in
-    omega (arith, start .good .1 .1 .1 .1 .1 .1 .1 .1 .0, held _ _ _ _ (read .read-line .ensures .0) (read .read-line .ensures .1) _ _ _ _ _ (number .number .given .1) .inside)
+    let start = read .before .before .before .before .before .before .before .before .before .before .before .before .before in
+    omega (arith, start .good .1 .1 .1 .1 .1 .1 .1 .1 .1 .0, held _ _ _ _ (read .read-line .ensures .0) (read .read-line .ensures .1) _ _ _ _ _ (number .number .given .1) .inside)
 
 same-length-7 : tie.Need-same-length-7
 same-length-7 c = search needs
@@ -135,7 +135,7 @@ turn-spec =
     same-length-5
     same-length-6
     returns-2
-    add-t33
+    add-t34
     same-length-7
     same-length-8
     returns-3

@@ -19,8 +19,8 @@ part-decode-end c = search needs
 
 decode-requires : tie.Need-decode-requires
 decode-requires c κs =
-    let start = c .before .before .before .before .before in
-    (tab-marks, part-fits (start .args .text .now) (start .args .at) _ (start .pre .for-block))
+    let start = c .before .before .before .before .before .before in
+    (start .pre .0, (tab-marks, part-fits (start .args .text .now) (start .args .at) _ (start .pre .1 .for-block)))
 
 enum-known-command : tie.Need-enum-known-command
 enum-known-command c = search needs
@@ -34,7 +34,7 @@ same-length c = search needs
 returns : tie.Need-returns
 returns c =
     let decode = c .before .before .before .before in
-    let start = decode .before .before .before .before .before .before in
+    let start = decode .before .before .before .before .before .before .before in
     let t = start .args .text .now in
     let at = start .args .at in
     (other-means _ _ _ (no-command t at _ (tail t at) _ _ (decode .decode .ensures) _ _ (c .enum-told .given .1)), other-within _ _ _ _)
@@ -43,7 +43,7 @@ add-next : tie.Need-add-next
 add-next c =
     let command = c .before in
     let decode = command .before .before .before .before in
-    let start = decode .before .before .before .before .before .before in
+    let start = decode .before .before .before .before .before .before .before in
     let t = start .args .text .now in
     let at = start .args .at in
     omega (arith, command-there t at _ (tail t at) _ _ (decode .decode .ensures) _ (command .command .given .1))
@@ -52,7 +52,7 @@ add-next-2 : tie.Need-add-next-2
 add-next-2 c =
     let command = c .before in
     let decode = command .before .before .before .before in
-    let start = decode .before .before .before .before .before .before in
+    let start = decode .before .before .before .before .before .before .before in
     let t = start .args .text .now in
     let at = start .args .at in
     omega (arith, command-there t at _ (tail t at) _ _ (decode .decode .ensures) _ (command .command .given .1))
@@ -61,7 +61,7 @@ sub-decode-2 : tie.Need-sub-decode-2
 sub-decode-2 c =
     let command = c .before in
     let decode = command .before .before .before .before in
-    let start = decode .before .before .before .before .before .before in
+    let start = decode .before .before .before .before .before .before .before in
     let t = start .args .text .now in
     let at = start .args .at in
     omega (arith, command-there t at _ (tail t at) _ _ (decode .decode .ensures) _ (command .command .given .1))
@@ -70,7 +70,7 @@ part-decode-start-2 : tie.Need-part-decode-start-2
 part-decode-start-2 c =
     let command = c .before in
     let decode = command .before .before .before .before in
-    let start = decode .before .before .before .before .before .before in
+    let start = decode .before .before .before .before .before .before .before in
     let t = start .args .text .now in
     let at = start .args .at in
     omega (arith, command-there t at _ (tail t at) _ _ (decode .decode .ensures) _ (command .command .given .1))
@@ -82,10 +82,10 @@ decode-requires-2 : tie.Need-decode-requires-2
 decode-requires-2 c κs =
     let command = c .before .before .before in
     let decode = command .before .before .before .before in
-    let start = decode .before .before .before .before .before .before in
+    let start = decode .before .before .before .before .before .before .before in
     let t = start .args .text .now in
     let at = start .args .at in
-    (feed-marks, part-fits t (at + command .command .given .0 .0 + 1) _ (start .pre .for-list))
+    (start .pre .0, (feed-marks, part-fits t (at + command .command .given .0 .0 + 1) _ (start .pre .1 .for-list)))
 
 enum-known-parameters : tie.Need-enum-known-parameters
 enum-known-parameters c = search needs
@@ -104,18 +104,18 @@ returns-2 c =
     let decode2 = c .before .before .before .before in
     let command = decode2 .before .before .before .before in
     let decode = command .before .before .before .before in
-    let start = decode .before .before .before .before .before .before in
+    let start = decode .before .before .before .before .before .before .before in
     let t = start .args .text .now in
     let at = start .args .at in
     (other-means _ _ _ (no-parameters t at _ (tail t at) _ _ (decode .decode .ensures) _ (command .command .given .1) _ (tail t (at + command .command .given .0 .0 + 1)) _ _ (decode2 .decode2 .ensures) _ _ (c .enum-told2 .given .1)), other-within _ _ _ _)
 
-add-t24 : tie.Need-add-t24
-add-t24 c =
+add-t25 : tie.Need-add-t25
+add-t25 c =
     let parameters = c .before in
     let decode2 = parameters .before .before .before .before in
     let command = decode2 .before .before .before .before in
     let decode = command .before .before .before .before in
-    let start = decode .before .before .before .before .before .before in
+    let start = decode .before .before .before .before .before .before .before in
     let t = start .args .text .now in
     let at = start .args .at in
     omega (arith, line-ends t at _ (tail t at) _ _ (decode .decode .ensures) _ (command .command .given .1) _ (tail t (at + command .command .given .0 .0 + 1)) _ _ (decode2 .decode2 .ensures) _ (parameters .parameters .given .1))
@@ -132,7 +132,7 @@ returns-3 c =
     let decode2 = parameters .before .before .before .before in
     let command = decode2 .before .before .before .before in
     let decode = command .before .before .before .before in
-    let start = decode .before .before .before .before .before .before in
+    let start = decode .before .before .before .before .before .before .before in
     let t = start .args .text .now in
     let at = start .args .at in
     (both-fields t at _ (tail t at) _ _ (decode .decode .ensures) _ (command .command .given .1) _ (tail t (at + command .command .given .0 .0 + 1)) _ _ (decode2 .decode2 .ensures) _ (parameters .parameters .given .1) _ _, both-held t at _ (tail t at) _ _ (decode .decode .ensures) _ (command .command .given .1) _ (tail t (at + command .command .given .0 .0 + 1)) _ _ (decode2 .decode2 .ensures) _ (parameters .parameters .given .1) _ _ (search needs) (search needs))
@@ -160,7 +160,7 @@ after-host-spec =
     same-length-2
     same-length-3
     returns-2
-    add-t24
+    add-t25
     same-length-4
     same-length-5
     returns-3)

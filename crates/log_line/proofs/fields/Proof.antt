@@ -20,14 +20,14 @@ add-next : tie.Need-add-next
 add-next c =
     let no1 = c .before in
     let number = no1 .before in
-    omega (arith, number-inside _ _ _ (number .number .ensures) (no1 .if1 .left), first-inside LINE-FEED (number .before .before .before .before .args .text .now))
+    omega (arith, number-inside _ _ _ (number .number .ensures) (no1 .if1 .left), first-inside LINE-FEED (number .before .before .before .before .before .args .text .now))
 
 after-number-requires : tie.Need-after-number-requires
 after-number-requires c κs =
     let no1 = c .before .before .before in
     let number = no1 .before in
-    let start = number .before .before .before .before in
-    record { started = omega (arith, number-inside _ _ _ (number .number .ensures) (no1 .if1 .left), first-inside LINE-FEED (start .args .text .now)); for-block = start .pre .for-block; for-list = start .pre .for-list }
+    let start = number .before .before .before .before .before in
+    (start .pre .0, record { started = omega (arith, number-inside _ _ _ (number .number .ensures) (no1 .if1 .left), first-inside LINE-FEED (start .args .text .now)); for-block = start .pre .1 .for-block; for-list = start .pre .1 .for-list })
 
 same-length : tie.Need-same-length
 same-length c = search needs

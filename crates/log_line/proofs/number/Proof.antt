@@ -7,10 +7,10 @@ use Rattle.log_line.proofs.number.Statement.{statement}
 use Rattle.log_line.proofs.number.Tie as tie
 
 abbrev Inv-loop : tie.InvT-loop
-Inv-loop text n₀ i₀ n i = Counting text n i
+Inv-loop digits text n₀ i₀ n i = Counting text n i
 
 abbrev μ-loop : tie.MeasureT-loop
-μ-loop text n₀ i₀ n i = length text - i
+μ-loop digits text n₀ i₀ n i = length text - i
 
 no-number-requires : tie.Need-no-number-requires Inv-loop μ-loop
 no-number-requires c κs = search needs
@@ -33,26 +33,26 @@ loop-holds c = starts _ (c .before .before .if1 .left) (c .if2 .left)
 shared-slice-read-b : tie.Need-shared-slice-read-b Inv-loop μ-loop
 shared-slice-read-b c = search needs
 
-cast-t14 : tie.Need-cast-t14 Inv-loop μ-loop
-cast-t14 c = search needs
-
-returns-3 : tie.Need-returns-3 Inv-loop μ-loop
-returns-3 c =
-    let turn = c .before .before in
-    found _ _ _ (turn .before .loop .inv) (turn .loop-test .taken) (c .if3 .taken)
-
-digit-requires : tie.Need-digit-requires Inv-loop μ-loop
-digit-requires c κs = search needs
+value-of-requires : tie.Need-value-of-requires Inv-loop μ-loop
+value-of-requires c κs = search needs
 
 no-number-requires-3 : tie.Need-no-number-requires-3 Inv-loop μ-loop
 no-number-requires-3 c κs = search needs
 
+returns-3 : tie.Need-returns-3 Inv-loop μ-loop
+returns-3 c =
+    let no4 = c .before in
+    let value = no4 .before .before in
+    let turn = value .before .before in
+    none _ _ _ (c .no-number3 .ensures) (no-digit _ _ _ (turn .before .loop .inv) (turn .loop-test .taken) _ (value .value-of .ensures) (no4 .before .if3 .taken) (no4 .if4 .taken))
+
+cast-t16 : tie.Need-cast-t16 Inv-loop μ-loop
+cast-t16 c = search needs
+
 returns-4 : tie.Need-returns-4 Inv-loop μ-loop
 returns-4 c =
-    let digit = c .before .before in
-    let no3 = digit .before in
-    let turn = no3 .before .before in
-    none _ _ _ (c .no-number3 .ensures) (no-digit _ _ _ (turn .before .loop .inv) (turn .loop-test .taken) (no3 .if3 .left) _ (digit .digit .ensures) (c .before .if4 .taken))
+    let turn = c .before .before .before .before in
+    found _ _ _ (turn .before .loop .inv) (turn .loop-test .taken) (c .if4 .left)
 
 mul-n : tie.Need-mul-n Inv-loop μ-loop
 mul-n c = search needs
@@ -68,11 +68,10 @@ no-number-requires-4 c κs = search needs
 
 returns-5 : tie.Need-returns-5 Inv-loop μ-loop
 returns-5 c =
-    let no4 = c .before .before in
-    let digit = no4 .before in
-    let no3 = digit .before in
-    let turn = no3 .before .before in
-    none _ _ _ (c .no-number4 .ensures) (too-large _ _ _ (turn .before .loop .inv) (turn .loop-test .taken) (no3 .if3 .left) _ (digit .digit .ensures) (no4 .if4 .left) (c .before .if5 .taken))
+    let no3 = c .before .before in
+    let value = no3 .before in
+    let turn = value .before .before in
+    none _ _ _ (c .no-number4 .ensures) (too-large _ _ _ (turn .before .loop .inv) (turn .loop-test .taken) _ (value .value-of .ensures) (no3 .if3 .left) (c .before .if5 .taken))
 
 add-i : tie.Need-add-i Inv-loop μ-loop
 add-i c = search needs
@@ -82,11 +81,10 @@ loop-less c = search needs
 
 loop-again : tie.Need-loop-again Inv-loop μ-loop
 loop-again c =
-    let no4 = c .before in
-    let digit = no4 .before in
-    let no3 = digit .before in
-    let turn = no3 .before .before in
-    goes-on _ _ _ (turn .before .loop .inv) (turn .loop-test .taken) (no3 .if3 .left) _ (digit .digit .ensures) (no4 .if4 .left) (c .if5 .left)
+    let no3 = c .before in
+    let value = no3 .before in
+    let turn = value .before .before in
+    goes-on _ _ _ (turn .before .loop .inv) (turn .loop-test .taken) _ (value .value-of .ensures) (no3 .if3 .left) (c .if5 .left)
 
 no-number-requires-5 : tie.Need-no-number-requires-5 Inv-loop μ-loop
 no-number-requires-5 c κs = search needs
@@ -109,10 +107,10 @@ number-spec =
     returns-2
     loop-holds
     shared-slice-read-b
-    cast-t14
-    returns-3
-    digit-requires
+    value-of-requires
     no-number-requires-3
+    returns-3
+    cast-t16
     returns-4
     mul-n
     cast-n

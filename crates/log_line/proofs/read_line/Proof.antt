@@ -17,8 +17,8 @@ slice-aggregate-fields c = sym (reached _ _ (c .before .least .ensures))
 fields-requires : tie.Need-fields-requires
 fields-requires c κs =
     let least = c .before .before .before in
-    let start = least .before .before .before .before in
-    room _ _ (least .least .ensures) _ _ (start .pre .0) (start .pre .1)
+    let start = least .before .before .before .before .before in
+    (start .pre .0, room _ _ (least .least .ensures) _ _ (start .pre .1 .0) (start .pre .1 .1))
 
 same-length : tie.Need-same-length
 same-length c = search needs

@@ -1,9 +1,9 @@
 -- `replay::replay` meets its contract. Assumes nothing.
-use borrow.Author.Needs.{needs}
 use mathlib.Core.Path.{sym, _∙_}
 use borrow.Author.Tests.{not-true, not-false}
 use Rattle.rules.specs.Tables.{lent}
 use Rattle.replay.proofs.Ways.{told-ends, unsound, replayed}
+use borrow.Author.Needs.{needs}
 use Rattle.replay.proofs.replay.Statement.{statement}
 use Rattle.replay.proofs.replay.Tie as tie
 
@@ -25,12 +25,22 @@ returns c =
     let check = yes1 .before .before in
     told-ends _ _ _ _ _ _ _ (c .told .ensures) (unsound (lent _ _ _) _ _ _ _ (check .check .ensures .0) (not-true _ (yes1 .if1 .taken)))
 
+slice-aggregate-tabulate : tie.Need-slice-aggregate-tabulate
+slice-aggregate-tabulate c = search needs
+
+tabulate-requires : tie.Need-tabulate-requires
+tabulate-requires c κs = search needs
+
+slice-aggregate-turns : tie.Need-slice-aggregate-turns
+slice-aggregate-turns c = search needs
+
 turns-requires : tie.Need-turns-requires
 turns-requires c κs =
-    let no1 = c .before .before .before in
+    let tabled = c .before .before .before .before in
+    let no1 = tabled .before .before .before in
     let check = no1 .before .before in
     let whole = not-false _ (no1 .if1 .left) in
-    record { sound-now = sym (check .check .ensures .0) ∙ whole; runs-are = check .check .ensures .1 whole }
+    (record { sound-now = sym (check .check .ensures .0) ∙ whole; runs-are = check .check .ensures .1 whole }, tabled .tabulate .ensures)
 
 same-length-3 : tie.Need-same-length-3
 same-length-3 c = search needs
@@ -41,7 +51,8 @@ same-length-4 c = search needs
 returns-2 : tie.Need-returns-2
 returns-2 c =
     let turns = c .before .before .before .before in
-    let no1 = turns .before .before .before .before in
+    let tabled = turns .before .before .before .before .before in
+    let no1 = tabled .before .before .before in
     let check = no1 .before .before in
     replayed (lent _ _ _) _ _ _ _ (check .check .ensures .0) (not-false _ (no1 .if1 .left)) _ (turns .turns .ensures)
 
@@ -54,6 +65,9 @@ replay-spec =
     same-length
     same-length-2
     returns
+    slice-aggregate-tabulate
+    tabulate-requires
+    slice-aggregate-turns
     turns-requires
     same-length-3
     same-length-4

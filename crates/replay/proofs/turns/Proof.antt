@@ -10,11 +10,11 @@ use Rattle.replay.proofs.turns.Statement.{statement}
 use Rattle.replay.proofs.turns.Tie as tie
 
 abbrev Inv-loop : tie.InvT-loop
-Inv-loop runs head₀ elements₀ tags blank generations masks log expected budget block₀ list₀ lines₀ place₀ next₀ head elements block list lines place next =
+Inv-loop runs head₀ elements₀ tags blank generations masks digits log expected budget block₀ list₀ lines₀ place₀ next₀ head elements block list lines place next =
     Going head₀ elements₀ (others tags blank generations masks) log expected budget runs head elements block list lines place next
 
 abbrev μ-loop : tie.MeasureT-loop
-μ-loop runs head₀ elements₀ tags blank generations masks log expected budget block₀ list₀ lines₀ place₀ next₀ head elements block list lines place next =
+μ-loop runs head₀ elements₀ tags blank generations masks digits log expected budget block₀ list₀ lines₀ place₀ next₀ head elements block list lines place next =
     budget - lines
 
 -- a line was applied
@@ -23,24 +23,24 @@ went-on : (c : tie.After-known-told Inv-loop μ-loop)
     let no1 = turn .before .before .before .before .before .before in
     let round = no1 .before in
     let l = round .before .loop in
-    let start = round .before .before .before .before .before .before .before .before .before in
+    let start = round .before .before .before .before .before .before .before .before .before .before in
     Went (start .args .log .now) (l .place) (l .next) (c .before .taken .given .0 .0))
 went-on c =
     let turn = c .before .before .before .before .before .before .before .before .before in
     let no1 = turn .before .before .before .before .before .before in
     let round = no1 .before in
     let l = round .before .loop in
-    let start = round .before .before .before .before .before .before .before .before .before in
+    let start = round .before .before .before .before .before .before .before .before .before .before in
     let log = start .args .log .now in
     went (lent _ _ _) log _ _ (lent _ _ _) _ _ _ (l .inv .stands) (round .loop-test .taken) (l .inv .inside) (no1 .if1 .left) _ (tail log (l .place)) _ (lent _ _ _) (turn .turn .ensures .0) _ (c .before .taken .given .1) (turn .turn .ensures .1)
 
 loop-holds : tie.Need-loop-holds Inv-loop μ-loop
 loop-holds c =
-    let start = c .before .before .before .before .before .before .before in
+    let start = c .before .before .before .before .before .before .before .before in
     record {
       kept-head = refl;
       kept-elements = refl;
-      kept = start .pre;
+      kept = start .pre .0;
       block-room = search needs;
       list-room = search needs;
       within-budget = search needs;
@@ -81,8 +81,10 @@ slice-aggregate-turn-2 c = sym (c .before .before .before .before .before .befor
 
 turn-requires : tie.Need-turn-requires Inv-loop μ-loop
 turn-requires c κs =
-    let l = c .before .before .before .before .before .before .before .loop in
-    (l .inv .kept, (omega (arith, l .inv .block-room), omega (arith, l .inv .list-room)))
+    let round = c .before .before .before .before .before .before .before in
+    let l = round .loop in
+    let start = round .before .before .before .before .before .before .before .before .before in
+    (l .inv .kept, (start .pre .1, (omega (arith, l .inv .block-room), omega (arith, l .inv .list-room))))
 
 enum-told : tie.Need-enum-told Inv-loop μ-loop
 enum-told c = search needs
@@ -112,7 +114,7 @@ returns-2 c =
     let no1 = turn .before .before .before .before .before .before in
     let round = no1 .before in
     let l = round .before .loop in
-    let start = round .before .before .before .before .before .before .before .before .before in
+    let start = round .before .before .before .before .before .before .before .before .before .before in
     let log = start .args .log .now in
     told-ends _ _ _ _ _ _ _ (c .told2 .ensures) (ten (lent _ _ _) log _ _ (lent _ _ _) _ _ _ (l .inv .stands) (round .loop-test .taken) (l .inv .inside) (no1 .if1 .left) _ (tail log (l .place)) _ (lent _ _ _) (turn .turn .ensures .0) (c .before .enum-told .given .1))
 
@@ -124,15 +126,15 @@ add-place c =
     let turn = c .before .before .before .before .before .before .before .before .before in
     let no1 = turn .before .before .before .before .before .before in
     let round = no1 .before in
-    let start = round .before .before .before .before .before .before .before .before .before in
-    omega (arith, start .good .1 .1 .1 .1 .1 .1 .1 .0, went-on c .inside)
+    let start = round .before .before .before .before .before .before .before .before .before .before in
+    omega (arith, start .good .1 .1 .1 .1 .1 .1 .1 .1 .0, went-on c .inside)
 
 add-lines : tie.Need-add-lines Inv-loop μ-loop
 add-lines c =
     let turn = c .before .before .before .before .before .before .before .before .before in
     let no1 = turn .before .before .before .before .before .before in
     let round = no1 .before in
-    let start = round .before .before .before .before .before .before .before .before .before in
+    let start = round .before .before .before .before .before .before .before .before .before .before in
     omega (arith, round .loop-test .taken, start .fits)
 
 add-next : tie.Need-add-next Inv-loop μ-loop
@@ -151,14 +153,14 @@ loop-again c =
     let no1 = turn .before .before .before .before .before .before in
     let round = no1 .before in
     let l = round .before .loop in
-    let start = round .before .before .before .before .before .before .before .before .before in
+    let start = round .before .before .before .before .before .before .before .before .before .before in
     let log = start .args .log .now in
     record {
       kept-head = turn .turn .kept .1 .0 ∙ l .inv .kept-head;
       kept-elements = turn .turn .kept .1 .1 .0 ∙ l .inv .kept-elements;
       kept = still-kept _ _ _ _ (l .inv .kept) _ _ _ _ _ (turn .turn .ensures .0);
-      block-room = turn .turn .kept .1 .1 .1 .1 .1 .1 .1 .1 .1 .0 ∙ l .inv .block-room;
-      list-room = turn .turn .kept .1 .1 .1 .1 .1 .1 .1 .1 .1 .1 .0 ∙ l .inv .list-room;
+      block-room = turn .turn .kept .1 .1 .1 .1 .1 .1 .1 .1 .1 .1 .0 ∙ l .inv .block-room;
+      list-room = turn .turn .kept .1 .1 .1 .1 .1 .1 .1 .1 .1 .1 .1 .0 ∙ l .inv .list-room;
       within-budget = omega (arith, round .loop-test .taken);
       inside = went-on c .inside;
       stands = onward (lent _ _ _) log _ _ (lent _ _ _) _ _ _ (l .inv .stands) (round .loop-test .taken) (l .inv .inside) (no1 .if1 .left) _ (tail log (l .place)) _ (lent _ _ _) (turn .turn .ensures .0) _ (c .before .taken .given .1) (turn .turn .ensures .1);
