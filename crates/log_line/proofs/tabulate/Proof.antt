@@ -36,7 +36,7 @@ loop-less c = search needs
 loop-again : tie.Need-loop-again Inv-loop μ-loop
 loop-again c =
     let turn = c .before in
-    fills _ _ _ (turn .before .loop .inv) (turn .loop-test .taken) (c .digit .ensures)
+    fills _ _ _ (turn .before .loop .inv) (search needs) (c .digit .ensures)
 
 same-length : tie.Need-same-length Inv-loop μ-loop
 same-length c = c .before .loop .inv .whole ∙ sym (c .before .before .before .pre)
