@@ -81,7 +81,8 @@ add-t34 c =
     let no1 = carry .before .before .before .before .before in
     let number = no1 .before .before in
     let read = number .before .before .before .before .before .before in
-    let start = read .before .before .before .before .before .before .before .before .before .before .before .before .before in
+    let asked = read .before .before in
+    let start = asked .before .before .before .before .before .before .before .before .before .before .before in
     omega (arith, start .good .1 .1 .1 .1 .1 .1 .1 .1 .1 .0, held _ _ _ _ (read .read-line .ensures .0) (read .read-line .ensures .1) _ _ _ _ _ (number .number .given .1) .inside)
 
 same-length-7 : tie.Need-same-length-7
