@@ -1,4 +1,4 @@
--- The transports of a run, one after the other; a run and those behind it; and the first of all, where no other host holds it. Assumes nothing.
+-- The transports of a run, one after the other; a run and those behind it; the first of all, where no other host holds it; and what is looked up first. Assumes nothing.
 use Prim.Native.Nat.{ℕ, zero, suc, _+_, _-_, _<_, _≤_}
 use native.Mathlib.Omega.{arith}
 use mathlib.Core.Path.{_≡_, refl, sym, ap, _∙_}
@@ -7,23 +7,24 @@ use mathlib.Core.Bool.{Bool, true, false, not}
 use mathlib.Core.List.{List, [], _∷_, _++_}
 use lib.ListN.{length, getD}
 use lib.Dec.{eqb}
-use borrow.Author.Tests.{eqb-true, eq-eqb, ne-eqb}
+use borrow.Author.Tests.{eqb-true, eq-eqb, ne-eqb, not-true}
 use Rattle.rules.specs.Choice.{when, allOf}
 use Rattle.rules.specs.Tables.{holder}
 use Rattle.rules.specs.Roster.{Range, Slot, slots, spread, placeOf, kindOf, firstTransport, transport}
 use Rattle.rules.specs.Order.{other}
 use Rattle.rules.specs.Moves.{openTransport}
 use Rattle.rules.proofs.Ladder.{never, when-true, when-false}
+use Rattle.rules.proofs.Rungs.{below-as}
 use Rattle.rules.proofs.Places.{Placed, spread-placed}
 use Rattle.tables.specs.declared.Range.{Range as Code}
 use Rattle.tables.specs.declared.Types.the-variants.{Transport}
 use Rattle.tables.specs.declared.Found.{Found}
-use Rattle.tables.specs.declared.Found.the-variants.{At}
+use Rattle.tables.specs.declared.Found.the-variants.{At, Nothing}
 use Rattle.tables.specs.Ranges.{meaning, meant, laid}
-use Rattle.tables.specs.LookUp.{admits, found}
+use Rattle.tables.specs.LookUp.{admits, found, onFound}
 use Rattle.tables.proofs.Sort.{none, on-four}
-use Rattle.tables.proofs.LookUp.{at-admits, at-place}
-use Rattle.arms.specs.Used.{openAt}
+use Rattle.tables.proofs.LookUp.{at-admits, at-place, at-below}
+use Rattle.arms.specs.Used.{openAt, armAt, Told, isOpen}
 
 module _ (h : ℕ) (es : List ℕ) where
   -- ---- a run: its first transport, if no other host holds it, or one of those behind it
@@ -148,11 +149,44 @@ module _ (h : ℕ) (es : List ℕ) where
               ih k (rw z at e)
 
   -- its place is told, and not held
-  pub first-arm : (runs : List Code) (a p : ℕ) (f : Found) (x : Bool) → f ≡ found Transport (laid runs) a → a ≡ firstTransport (laid runs) → f ≡ At p
-      → x ≡ other h (holder es p) → x ≡ false → At p ≡ found Transport (laid runs) (openAt (laid runs) es h)
+  first-arm : (runs : List Code) (a p : ℕ) → a ≡ firstTransport (laid runs) → At p ≡ found Transport (laid runs) a → other h (holder es p) ≡ false
+      → At p ≡ found Transport (laid runs) (openAt (laid runs) es h)
   unfolding admits laid
-  first-arm runs a p f x is e t y z =
-      let k : kindOf (laid runs) a ≡ transport = eqb-true _ _ (at-admits Transport (laid runs) a f is p t) in
-      let q : p ≡ 0 + placeOf (laid runs) (firstTransport (laid runs)) = rw (← e) (omega (arith, at-place Transport (laid runs) a f is p t)) in
-      let o = first-open 0 (laid runs) (firstTransport (laid runs)) (spread-placed 0 _) (rw e at k) (rw (← q) (sym y ∙ z)) in
-      sym t ∙ is ∙ ap (found Transport (laid runs)) (e ∙ sym o)
+  first-arm runs a p e is free =
+      let k : kindOf (laid runs) a ≡ transport = eqb-true _ _ (at-admits Transport (laid runs) a (At p) is p refl) in
+      let q : p ≡ 0 + placeOf (laid runs) (firstTransport (laid runs)) = rw (← e) (omega (arith, at-place Transport (laid runs) a (At p) is p refl)) in
+      let o = first-open 0 (laid runs) (firstTransport (laid runs)) (spread-placed 0 _) (rw e at k) (rw (← q) free) in
+      is ∙ ap (found Transport (laid runs)) (e ∙ sym o)
+
+  pub open-first : (runs : List Code) (a : ℕ) (f : Found) (x : Bool) → f ≡ found Transport (laid runs) a → a ≡ firstTransport (laid runs)
+      → x ≡ isOpen es h f → x ≡ true → f ≡ found Transport (laid runs) (openAt (laid runs) es h)
+  unfolding isOpen onFound
+  open-first runs a (At p) x is e y t = first-arm runs a p e is (not-true _ (sym y ∙ t))
+  open-first runs a Nothing x is e y t = absurd (never (sym y ∙ t))
+
+  -- ---- by what a look-up told
+
+  pub open-at : (f : Found) (p : ℕ) (x : Bool) → f ≡ At p → x ≡ other h (holder es p) → not x ≡ isOpen es h f
+  unfolding isOpen onFound
+  open-at f p x e is = rw (e, is)
+
+  pub open-none : (f : Found) → f ≡ Nothing → false ≡ isOpen es h f
+  unfolding isOpen onFound
+  open-none f e = rw e
+
+-- a place that is told has a record
+pub told-at : (n p : ℕ) (f : Found) → f ≡ At p → Told n f → p < n
+told-at n p f e t = rw e at t
+
+pub found-told : (ss : List Slot) (a n : ℕ) (f : Found) → f ≡ found Transport ss a → length ss ≡ n → Told n f
+found-told ss a n (At p) is m = below-as p (length ss) n m (at-below Transport ss a (At p) is p refl)
+found-told ss a n Nothing is m = tt
+
+-- ---- the address that is looked up first
+
+pub choice-named : (ss : List Slot) (es : List ℕ) (h a w : ℕ) → w ≡ when (eqb a 0) (firstTransport ss) a → a ≢ 0 → w ≡ armAt ss es h a
+unfolding armAt
+choice-named ss es h a w is n = is ∙ when-false _ _ _ (ne-eqb a 0 n) ∙ sym (when-false _ _ _ (ne-eqb a 0 n))
+
+pub choice-first : (ss : List Slot) (a w : ℕ) → w ≡ when (eqb a 0) (firstTransport ss) a → a ≡ 0 → w ≡ firstTransport ss
+choice-first ss a w is z = is ∙ when-true _ _ _ (eq-eqb a 0 z)

@@ -5,14 +5,16 @@ use tables::Types;
 ghost use mathlib.Core.Path.{_≡_};
 ghost use Prim.Native.Nat.{_+_, _<_, _≤_};
 ghost use lib.ListN.{length};
+ghost use lib.Dec.{eqb};
+ghost use Rattle.rules.specs.Choice.{when};
 ghost use Rattle.rules.specs.Tables.{places, holder};
-ghost use Rattle.rules.specs.Roster.{slots};
+ghost use Rattle.rules.specs.Roster.{slots, firstTransport};
 ghost use Rattle.rules.specs.Order.{other};
 ghost use Rattle.rules.specs.Moves.{openTransport};
 ghost use Rattle.tables.specs.Ranges.{laid};
 ghost use Rattle.tables.specs.LookUp.{found};
 ghost use Rattle.tables.specs.declared.Types.the-variants.{Transport};
-ghost use Rattle.arms.specs.Used.{openAt, armAt};
+ghost use Rattle.arms.specs.Used.{openAt, armAt, Told, isOpen};
 
 // The element at a place is held by another host.
 pub fn place_held(elements: &[u8], host: u8, place: usize) -> bool
@@ -69,20 +71,39 @@ fn open_arm(runs: [Range; 4], elements: &[u8], host: u8) -> Found
     tables::find(runs, open_transport(runs, elements, host), Types::Transport)
 }
 
-// "A transport named by its address is as before"; for transport 0 the first is looked at first, and the others where it is held.
+// The address that is looked up first: the one that is named, and for transport 0 that of the first transport.
+fn first_choice(runs: [Range; 4], address: u16) -> u32
+    ensures { λ a. ⌜ a ≡ when (eqb address 0) (firstTransport (laid runs)) address ⌝ }
+{
+    if address == 0 {
+        return tables::first_transport(runs) as u32;
+    }
+    address as u32
+}
+
+// There is a transport, and no other host holds it.
+fn is_open(elements: &[u8], host: u8, arm: Found) -> bool
+    requires { ⌜ Told (places (now elements)) arm ⌝ }
+    ensures { λ r. ⌜ r ≡ isOpen (now (elements .entry)) host arm ⌝ }
+{
+    match arm {
+        Found::At(place) => !place_held(elements, host, place),
+        Found::Nothing => false,
+    }
+}
+
+// "A transport named by its address is as before"; for transport 0 the first is looked at first, and the others where it is held. There is one look-up for both,
+// and one call for the others, which the compiler then puts in place: the runs are not copied for it.
 pub fn arm_of(runs: [Range; 4], elements: &[u8], host: u8, address: u16) -> Found
     requires { ⌜ length (laid runs) ≡ places (now elements) ⌝ }
     ensures { λ r. ⌜ r ≡ found Transport (laid runs) (armAt (laid runs) (now (elements .entry)) host address) ⌝ }
 {
+    let first = tables::find(runs, first_choice(runs, address), Types::Transport);
     if address != 0 {
-        return tables::find(runs, address as u32, Types::Transport);
+        return first;
     }
-    let lowest = tables::first_transport(runs) as u32;
-    let Found::At(first) = tables::find(runs, lowest, Types::Transport) else {
-        return open_arm(runs, elements, host);
-    };
-    if place_held(elements, host, first) {
-        return open_arm(runs, elements, host);
+    if is_open(elements, host, first) {
+        return first;
     }
-    Found::At(first)
+    open_arm(runs, elements, host)
 }

@@ -3,7 +3,7 @@ use Prim.Native.Nat.{ℕ, zero, suc, _+_, _-_, _*_, _<_, _≤_}
 use native.Mathlib.Numerals.{add-one}
 use native.Mathlib.Omega.{arith}
 use mathlib.Core.Path.{_≡_, refl, sym, _∙_}
-use mathlib.Core.Bool.{Bool, true, false}
+use mathlib.Core.Bool.{Bool, true, false, not}
 use mathlib.Core.List.{List}
 use lib.ListN.{length, getD, set, length-set, replicate, length-replicate}
 use lib.Seq.{getD-set-same, getD-set-other}
@@ -14,7 +14,7 @@ use Rattle.rules.specs.Tables.{elementSize, mostDescriptors, holder, id}
 use Rattle.rules.specs.Roster.{Slot}
 use Rattle.rules.specs.Order.{other}
 use Rattle.rules.specs.Holds.{descriptors, wrongListLength, first, many, taken, takes, conflicts}
-use Rattle.rules.proofs.Ladder.{yes, no, test-is, either, any-first, any-rest}
+use Rattle.rules.proofs.Ladder.{yes, no, either, any-first, any-rest}
 use Rattle.rules.proofs.Loops.{Failed, found-there, found-nowhere}
 use Rattle.order.specs.declared.Cause.{Cause}
 use Rattle.order.specs.declared.Cause.the-variants.{ListLength}
@@ -180,15 +180,22 @@ length-most list r is t n all =
 
 -- ---- one element, of which the code has read the owner o and the id n
 
-module _ (es : List ℕ) (p o n : ℕ) (owner : o ≡ holder es p) (h i : ℕ) (r : Bool) (is : r ≡ other h o) where
-  pub taken-other : r ≡ true → true ≡ taken es h i p
-  unfolding taken anyOf when
-  taken-other t = rw (sym owner, sym is ∙ t)
+module _ (es : List ℕ) (p o : ℕ) (owner : o ≡ holder es p) (h i : ℕ) where
+  pub taken-own : (n : ℕ) → o ≡ h → n ≡ id es p → differ n i ≡ taken es h i p
+  unfolding taken anyOf allOf when other differ
+  taken-own n e number =
+      rw (sym owner, eq-eqb o h e, sym number) (go (eqb o 0) (eqb n i))
+    where
+      go : (a b : Bool) → not b ≡ when (when (not a) (when (not true) true false) false) true (when (when true (when (not b) true false) false) true false)
+      go true true = refl
+      go true false = refl
+      go false true = refl
+      go false false = refl
 
-  pub taken-own : r ≡ false → o ≡ h → n ≡ id es p → differ n i ≡ taken es h i p
-  unfolding taken anyOf allOf when
-  taken-own t e number = rw (sym owner, sym is ∙ t, eq-eqb o h e, sym number) (test-is (differ n i) ∙ test-is (when (differ n i) true false))
-
-  pub taken-not : r ≡ false → (o ≡ h → ⊥) → false ≡ taken es h i p
-  unfolding taken anyOf allOf when
-  taken-not t e = rw (sym owner, sym is ∙ t, ne-eqb o h e)
+  pub taken-not : (o ≡ h → ⊥) → differ o 0 ≡ taken es h i p
+  unfolding taken anyOf allOf when other differ
+  taken-not e = rw (sym owner, ne-eqb o h e) (go (eqb o 0))
+    where
+      go : (a : Bool) → not a ≡ when (when (not a) (when (not false) true false) false) true (when (when false (when (differ (id es p) i) true false) false) true false)
+      go true = refl
+      go false = refl

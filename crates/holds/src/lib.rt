@@ -48,13 +48,10 @@ fn taken_at(elements: &[u8], host: u8, id: u8, place: usize) -> bool
     ensures { λ r. ⌜ r ≡ taken (now (elements .entry)) host id place ⌝ }
 {
     let owner = tables::element::holder(elements, place);
-    if order::other(host, owner) {
-        return true;
-    }
     if owner == host {
         return tables::element::id(elements, place) != id;
     }
-    false
+    owner != 0
 }
 
 // Outer loop over descriptors, inner over the elements named: the label leaves both at the first that is taken.
