@@ -43,12 +43,18 @@ moves-by p q v w e = ap (Move p q) e
 pub exchanges-by : (p q r : Spot) (v w v′ w′ : ℕ) → v ≡ v′ → w ≡ w′ → Exchange p q r v w ≡ Exchange p q r v′ w′
 exchanges-by p q r v w v′ w′ e e′ = cc
 
+-- the address and the volume that the last tests judge were read by calls
+pub unfit-by : (head generations masks : List ℕ) (kind x a v w : ℕ) (b : Bool) → b ≡ unfitAt head generations masks kind x v → x ≡ a → v ≡ w
+    → b ≡ unfitAt head generations masks kind a w
+unfit-by head gs ms kind x a v w b is e f = cc
+
 -- for `search`: down the tests of what stands at the places
-pub ruleset standing = (yes, no, eq-yes, eq-no, differ-yes, differ-no, moves-by, exchanges-by)
+pub ruleset standing = (yes, no, eq-yes, eq-no, differ-yes, differ-no, unfit-by, moves-by, exchanges-by)
 
 -- the two addresses that the last tests of an exchange compare were read by calls
-pub same-by : (r : Ruling) (es : List ℕ) (h arm : ℕ) (p q s : Spot) (x y a b : ℕ) → r ≡ exchangeAt es h arm p q s (eqb x y) → x ≡ a → y ≡ b → r ≡ exchangeAt es h arm p q s (eqb a b)
-same-by r es h arm p q s x y a b e f g = cc
+pub same-by : (r : Ruling) (head gs ms es : List ℕ) (h : ℕ) (block : List ℕ) (arm : ℕ) (p q s : Spot) (x y a b : ℕ)
+    → r ≡ exchangeAt head gs ms es h block arm p q s (eqb x y) → x ≡ a → y ≡ b → r ≡ exchangeAt head gs ms es h block arm p q s (eqb a b)
+same-by r head gs ms es h block arm p q s x y a b e f g = cc
 
 -- a place by the type at its address: refused, or judged on
 pub place-no : (s : Spot) (ss : List Slot) (x a : ℕ) (f : Spot → Ruling) (z : Ruling) → s ≡ spotOf ss x → x ≡ a → s .kind ≤ transport → z ≡ wrong
@@ -94,11 +100,6 @@ pub drive-by : (head generations masks : List ℕ) (kind a v first d : ℕ) (b :
     → b ≡ accepts (byte masks d) (byte generations (v - 1)) → not b ≡ unfitAt head generations masks kind a v
 unfolding unfitAt allOf when range
 drive-by head gs ms kind a v first d b k f e is = rw (eq-eqb kind drive k, ← f, ← e, ← is) (test-is (not b))
-
--- the address was read by a call
-pub unfit-by : (head generations masks : List ℕ) (kind x a v : ℕ) (b : Bool) → b ≡ unfitAt head generations masks kind x v → x ≡ a
-    → b ≡ unfitAt head generations masks kind a v
-unfit-by head gs ms kind x a v b is e = cc
 
 -- ---- the panel's number
 

@@ -2,13 +2,13 @@
 use Prim.Native.Nat.{ℕ, _+_, _-_, _≤_}
 use native.Mathlib.Omega.{arith}
 use mathlib.Core.Path.{_≡_, ap, _∙_}
+use mathlib.Core.Bool.{Bool}
 use mathlib.Core.List.{List, []}
 use lib.ListN.{length}
 use Rattle.rules.specs.Bytes.{word}
 use Rattle.rules.specs.Roster.{roster}
 use Rattle.rules.specs.Tables.{lent, hosts, places, panel, emptyShelves, sensed, shown, filled, NewSense, Recount, inHead, inElements, change, changes, Rest}
 use Rattle.rules.specs.Order.{outcome, good}
-use Rattle.rules.specs.Moves.{move, exchange}
 use Rattle.rules.proofs.Places.{roster-placed}
 use Rattle.rules.proofs.Local.{sense-local}
 use Rattle.rules.proofs.Recounts.{recount-past}
@@ -21,9 +21,9 @@ use Rattle.tables.specs.Ranges.{laid}
 use Rattle.tables.proofs.Roster.{runs-laid}
 use Rattle.moves.specs.declared.Ruling.{Ruling}
 use Rattle.moves.specs.declared.Ruling.the-variants.{Move, Exchange}
-use Rattle.moves.specs.Judged.{shelfAt, meaning, shifted, carried, swapped, moveBy, exchangeBy, fitted, shelf, Tally, Tallies, Able, Within, Ready}
-use Rattle.moves.proofs.Meaning.{move-means, exchange-means, fitted-keeps}
-use Rattle.moves.proofs.Tallied.{move-tallies, exchange-tallies}
+use Rattle.moves.specs.Judged.{shelfAt, meaning, shifted, carried, swapped, judgedBy, carryVerdict, shelf, Tally, Able, Within, Ready}
+use Rattle.moves.proofs.Meaning.{judged-means}
+use Rattle.moves.proofs.Tallied.{judged-tallies}
 
 -- the address that was left came from a call
 pub shelf-by : (es : List ℕ) (s a b : ℕ) (p : Spot) → a ≡ b → s ≡ shelfAt es a p → s ≡ shelfAt es b p
@@ -95,35 +95,19 @@ module _ (runs : List Range) (head es : List ℕ) (ready : Ready runs head es) w
   unfolding places
   records-are = omega (arith, ap length (runs-laid runs head (ready .runs-are)), ready .records)
 
-  module _ (generations masks block : List ℕ) (h : ℕ) (judged ruling : Ruling) (is : ruling ≡ fitted head generations masks block judged) where
-    -- what the last test leaves can be carried out, since what was judged before it could
-    able-as : length block ≡ 12 → Within (places es) judged → Tallies (roster head) es block (emptyShelves (roster head) es) judged
-        → Able head es block ruling
-    able-as long inside tallied =
+  module _ (generations masks block : List ℕ) (h : ℕ) (both : Bool) (ruling : Ruling) (is : ruling ≡ judgedBy (laid runs) head generations masks es h block both) where
+    pub judged-is : (rest : Rest) → rest .generations ≡ generations → rest .masks ≡ masks
+        → meaning es h block ruling ≡ carryVerdict both (lent head es rest) h block
+    judged-is rest g m = cc (runs-laid runs head (ready .runs-are), judged-means (lent head es rest) h block both)
+
+    pub judged-able : length block ≡ 12 → Within (places es) ruling → Able head es block ruling
+    judged-able long inside =
         record {
           head-length = ready .head-length;
           block-length = long;
           few = omega (arith, ready .panel-true, ready .few, shelves-most (roster head) es);
-          within = rw is (fitted-keeps (Within (places es)) (λ _. tt) head generations masks block judged inside);
+          within = inside;
           tallies =
-              rw (is, ready .panel-true)
-              (fitted-keeps (Tallies (roster head) es block (emptyShelves (roster head) es)) (λ _. tt) head generations masks block judged tallied);
+              rw (is, ready .panel-true, runs-laid runs head (ready .runs-are))
+              (judged-tallies (roster head) (roster-placed head) es (ready .records) head generations masks h block both);
         }
-
-    pub move-judged : judged ≡ moveBy (laid runs) es h block → (rest : Rest) → rest .generations ≡ generations → rest .masks ≡ masks
-        → meaning es h block ruling ≡ move (lent head es rest) h block
-    move-judged e rest g m = cc (runs-laid runs head (ready .runs-are), move-means (lent head es rest) h block)
-
-    pub move-able : judged ≡ moveBy (laid runs) es h block → length block ≡ 12 → Within (places es) judged → Able head es block ruling
-    move-able e long inside =
-        able-as long inside
-        (rw (e, runs-laid runs head (ready .runs-are)) (move-tallies (roster head) (roster-placed head) es (ready .records) h block))
-
-    pub exchange-judged : judged ≡ exchangeBy (laid runs) es h block → (rest : Rest) → rest .generations ≡ generations → rest .masks ≡ masks
-        → meaning es h block ruling ≡ exchange (lent head es rest) h block
-    exchange-judged e rest g m = cc (runs-laid runs head (ready .runs-are), exchange-means (lent head es rest) h block)
-
-    pub exchange-able : judged ≡ exchangeBy (laid runs) es h block → length block ≡ 12 → Within (places es) judged → Able head es block ruling
-    exchange-able e long inside =
-        able-as long inside
-        (rw (e, runs-laid runs head (ready .runs-are)) (exchange-tallies (roster head) (roster-placed head) es (ready .records) h block))

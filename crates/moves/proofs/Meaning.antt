@@ -10,15 +10,13 @@ use Rattle.rules.specs.Roster.{roster, kindOf}
 use Rattle.rules.specs.Order.{Verdict, heldByOther, volumeOf, sourceOf}
 use Rattle.rules.specs.Moves.{move, moveOf, exchange, exchangeOf, transportUsed, noPlace, leave, shelfOf, carry}
 use Rattle.rules.specs.Fitting.{generation, maskOf, driveTakes, unfit}
-use Rattle.rules.proofs.Ladder.{any-yes, any-none, when-of, when-not, on}
-use Rattle.order.specs.declared.Cause.{Cause}
+use Rattle.rules.proofs.Ladder.{any-yes, any-none, when-true, when-false, when-of, when-not}
 use Rattle.order.specs.Ending.{reason}
 use Rattle.tables.proofs.LookUp.{found-cases, no-transport-is}
 use Rattle.tables.specs.LookUp.{spotOf}
 use Rattle.arms.specs.Used.{armAt}
-use Rattle.moves.specs.Judged.{shelfAt, meaning, onPlace, moveAt, exchangeHeld, hinders, exchangeAt, moveBy, exchangeSpots, exchangeBy, unfitAt, fitted}
+use Rattle.moves.specs.Judged.{shelfAt, meaning, onPlace, moveAt, exchangeHeld, hinders, exchangeAt, moveSpots, exchangeSpots, judgedBy, carryVerdict, unfitAt}
 use Rattle.moves.specs.declared.Ruling.{Ruling}
-use Rattle.moves.specs.declared.Ruling.the-variants.{Move, Exchange, Refused, Conflict}
 
 -- a list of tests, one after the other
 any-more : {A : Type 0} (b : Bool) (bs : List Bool) (x y : A) → when (anyOf (b ∷ bs)) x y ≡ when b x (when (anyOf bs) x y)
@@ -38,29 +36,35 @@ full-other v a b x y = go (eqb v 0) (eqb a b)
     go false true = refl
     go false false = refl
 
+-- a test that is known
+when-first : {A : Type 0} (x y : A) → when true x y ≡ x
+when-first x y = when-true true x y refl
+
+when-second : {A : Type 0} (x y : A) → when false x y ≡ y
+when-second x y = when-false false x y refl
+
 module _ (t : Tables) (h : ℕ) (block : List ℕ) where
-  -- what is made of an answer of steps 5 to 8
+  -- what is made of an answer
   abbrev Meant : Ruling → Verdict
-  Meant r = meaning (t .elements) h block (fitted (t .head) (t .rest .generations) (t .rest .masks) block r)
+  Meant = meaning (t .elements) h block
+
+  abbrev Judged : Bool → Ruling
+  Judged = judgedBy (roster (t .head)) (t .head) (t .rest .generations) (t .rest .masks) (t .elements) h block
 
   -- by the type of the element that was found at the address
   unfit-is : (a v : ℕ) → unfitAt (t .head) (t .rest .generations) (t .rest .masks) (kindOf (roster (t .head)) a) a v ≡ unfit t a v
   unfolding unfitAt unfit driveTakes maskOf generation
   unfit-is a v = refl
 
-  pub move-means : Meant (moveBy (roster (t .head)) (t .elements) h block) ≡ move t h block
-  unfolding moveBy onPlace moveAt fitted move moveOf transportUsed armAt heldByOther volumeOf sourceOf leave shelfOf shelfAt spotOf noPlace carry meaning reason
-  move-means = simp (found-cases, when-of Meant, when-of (meaning (t .elements) h block), unfit-is, any-more, any-end, no-transport-is, when-not)
+  move-means : Meant (Judged false) ≡ move t h block
+  unfolding judgedBy moveSpots onPlace moveAt move moveOf transportUsed armAt heldByOther volumeOf sourceOf leave shelfOf shelfAt spotOf noPlace carry meaning reason
+  move-means = simp (found-cases, when-second, when-of Meant, unfit-is, any-more, any-end, no-transport-is, when-not)
 
-  pub exchange-means : Meant (exchangeBy (roster (t .head)) (t .elements) h block) ≡ exchange t h block
-  unfolding exchangeBy exchangeSpots onPlace exchangeHeld hinders exchangeAt fitted exchange exchangeOf transportUsed armAt heldByOther volumeOf sourceOf leave shelfOf shelfAt spotOf noPlace carry meaning reason
-  exchange-means = simp (found-cases, when-of Meant, when-of (meaning (t .elements) h block), unfit-is, any-more, any-end, no-transport-is, when-not, full-other)
+  exchange-means : Meant (Judged true) ≡ exchange t h block
+  unfolding judgedBy exchangeSpots onPlace exchangeHeld hinders exchangeAt exchange exchangeOf transportUsed armAt heldByOther volumeOf sourceOf leave shelfOf shelfAt spotOf noPlace carry meaning reason
+  exchange-means = simp (found-cases, when-first, when-of Meant, unfit-is, any-more, any-end, no-transport-is, when-not, full-other)
 
--- what holds of an answer and of every refusal still holds behind the last test
-pub fitted-keeps : (P : Ruling → Type 0) → ((cause : Cause) → P (Refused cause)) → (head generations masks block : List ℕ) (r : Ruling) → P r
-    → P (fitted head generations masks block r)
-unfolding fitted
-fitted-keeps P told head gs ms block (Move p q v) x = on P _ (λ _. told _) (λ _. x)
-fitted-keeps P told head gs ms block (Exchange p q r v w) x = on P _ (λ _. told _) (λ _. on P _ (λ _. told _) (λ _. x))
-fitted-keeps P told head gs ms block (Refused cause) x = x
-fitted-keeps P told head gs ms block Conflict x = x
+  pub judged-means : (both : Bool) → Meant (Judged both) ≡ carryVerdict both t h block
+  unfolding carryVerdict when
+  judged-means true = exchange-means
+  judged-means false = move-means

@@ -7,9 +7,10 @@ use lib.ListN.{length}
 use lib.Dec.{eqb, leb}
 use Rattle.rules.specs.Choice.{when, anyOf, allOf, differ}
 use Rattle.rules.specs.Bytes.{byte, word}
-use Rattle.rules.specs.Tables.{headSize, elementSize, mostElements, places, holder, volume, source, panel, emptyShelves, filled, Fill, Recount}
+use Rattle.rules.specs.Tables.{Tables, headSize, elementSize, mostElements, places, holder, volume, source, panel, emptyShelves, filled, Fill, Recount}
 use Rattle.rules.specs.Roster.{Slot, range, roster, kindOf, transport, storage, drive}
 use Rattle.rules.specs.Order.{Verdict, refused, conflict, good, other}
+use Rattle.rules.specs.Moves.{move, exchange}
 use Rattle.rules.specs.Fitting.{accepts}
 use Rattle.order.specs.declared.Cause.the-variants.{WrongAddress, SourceEmpty, DestinationFull, IncompatibleMedium}
 use Rattle.order.specs.Ending.{reason}
@@ -50,58 +51,6 @@ Within n (Exchange p q r v w) = (p .place < n) × ((q .place < n) × (r .place <
 Within n (Refused cause) = Unit {0}
 Within n Conflict = Unit {0}
 
--- ---- steps 6 to 8, by places
-
-unfoldable pub moveAt : List ℕ → ℕ → ℕ → Spot → Spot → Ruling
-moveAt elements h arm p q =
-    when (other h (holder elements arm)) Conflict
-    (when (other h (holder elements (p .place))) Conflict
-    (when (other h (holder elements (q .place))) Conflict
-    (when (eqb (volume elements (p .place)) 0) (Refused SourceEmpty)
-    (when (differ (volume elements (q .place)) 0) (Refused DestinationFull) (Move p q (volume elements (p .place)))))))
-
-unfoldable pub exchangeHeld : List ℕ → ℕ → ℕ → ℕ → ℕ → ℕ → Bool
-exchangeHeld elements h arm p q r =
-    anyOf (other h (holder elements arm) ∷ other h (holder elements p) ∷ other h (holder elements q) ∷ other h (holder elements r) ∷ [])
-
--- `same`: the second destination is the source, and may be full
-unfoldable pub hinders : List ℕ → ℕ → Bool → Bool
-hinders elements r same = when same false (differ (volume elements r) 0)
-
-unfoldable pub exchangeAt : List ℕ → ℕ → ℕ → Spot → Spot → Spot → Bool → Ruling
-exchangeAt elements h arm p q r same =
-    when (exchangeHeld elements h arm (p .place) (q .place) (r .place)) Conflict
-    (when (eqb (volume elements (p .place)) 0) (Refused SourceEmpty)
-    (when (eqb (volume elements (q .place)) 0) (Refused SourceEmpty)
-    (when (hinders elements (r .place) same) (Refused DestinationFull)
-    (Exchange p q r (volume elements (p .place)) (volume elements (q .place))))))
-
--- ---- steps 5 to 8
-
-abbrev pub wrong : Ruling
-wrong = Refused WrongAddress
-
--- "Source and destination must be elements and no transport": type and place of an address, and what is judged by them
-unfoldable pub onPlace : List Slot → ℕ → (Spot → Ruling) → Ruling
-onPlace ss a f = when (leb (kindOf ss a) transport) wrong (f (spotOf ss a))
-
-unfoldable pub moveBy : List Slot → List ℕ → ℕ → List ℕ → Ruling
-moveBy ss elements h block =
-    onFound (found Transport ss (armAt ss elements h (word block 2)))
-    (λ arm. onPlace ss (word block 4) (λ p. onPlace ss (word block 6) (λ q. moveAt elements h arm p q))) wrong
-
--- the three places of an exchange
-unfoldable pub exchangeSpots : List Slot → List ℕ → ℕ → List ℕ → ℕ → Ruling
-exchangeSpots ss elements h block arm =
-    onPlace ss (word block 4)
-    (λ p. onPlace ss (word block 6)
-    (λ q. onPlace ss (word block 8)
-    (λ r. when (eqb (word block 6) (word block 4)) wrong (exchangeAt elements h arm p q r (eqb (word block 8) (word block 4))))))
-
-unfoldable pub exchangeBy : List Slot → List ℕ → ℕ → List ℕ → Ruling
-exchangeBy ss elements h block =
-    onFound (found Transport ss (armAt ss elements h (word block 2))) (λ arm. exchangeSpots ss elements h block arm) wrong
-
 -- ---- "The new refusal stands after step 8"
 
 -- the element of a type at an address is a drive, and does not take a volume, by the generations and the masks
@@ -112,14 +61,69 @@ unfitAt head generations masks kind a v =
 abbrev pub incompatible : Ruling
 incompatible = Refused IncompatibleMedium
 
--- what was judged in steps 5 to 8, or the new refusal: "for a move or either leg of an exchange that ends in a drive"
-unfoldable pub fitted : List ℕ → List ℕ → List ℕ → List ℕ → Ruling → Ruling
-fitted head generations masks block (Move p q v) = when (unfitAt head generations masks (q .kind) (word block 6) v) incompatible (Move p q v)
-fitted head generations masks block (Exchange p q r v w) =
-    when (unfitAt head generations masks (q .kind) (word block 6) v) incompatible
-    (when (unfitAt head generations masks (r .kind) (word block 8) w) incompatible (Exchange p q r v w))
-fitted head generations masks block (Refused cause) = Refused cause
-fitted head generations masks block Conflict = Conflict
+-- ---- steps 6 to 8, by places, and that refusal: "for a move or either leg of an exchange that ends in a drive"
+
+unfoldable pub moveAt : List ℕ → List ℕ → List ℕ → List ℕ → ℕ → List ℕ → ℕ → Spot → Spot → Ruling
+moveAt head generations masks elements h block arm p q =
+    when (other h (holder elements arm)) Conflict
+    (when (other h (holder elements (p .place))) Conflict
+    (when (other h (holder elements (q .place))) Conflict
+    (when (eqb (volume elements (p .place)) 0) (Refused SourceEmpty)
+    (when (differ (volume elements (q .place)) 0) (Refused DestinationFull)
+    (when (unfitAt head generations masks (q .kind) (word block 6) (volume elements (p .place))) incompatible
+    (Move p q (volume elements (p .place))))))))
+
+unfoldable pub exchangeHeld : List ℕ → ℕ → ℕ → ℕ → ℕ → ℕ → Bool
+exchangeHeld elements h arm p q r =
+    anyOf (other h (holder elements arm) ∷ other h (holder elements p) ∷ other h (holder elements q) ∷ other h (holder elements r) ∷ [])
+
+-- `same`: the second destination is the source, and may be full
+unfoldable pub hinders : List ℕ → ℕ → Bool → Bool
+hinders elements r same = when same false (differ (volume elements r) 0)
+
+unfoldable pub exchangeAt : List ℕ → List ℕ → List ℕ → List ℕ → ℕ → List ℕ → ℕ → Spot → Spot → Spot → Bool → Ruling
+exchangeAt head generations masks elements h block arm p q r same =
+    when (exchangeHeld elements h arm (p .place) (q .place) (r .place)) Conflict
+    (when (eqb (volume elements (p .place)) 0) (Refused SourceEmpty)
+    (when (eqb (volume elements (q .place)) 0) (Refused SourceEmpty)
+    (when (hinders elements (r .place) same) (Refused DestinationFull)
+    (when (unfitAt head generations masks (q .kind) (word block 6) (volume elements (p .place))) incompatible
+    (when (unfitAt head generations masks (r .kind) (word block 8) (volume elements (q .place))) incompatible
+    (Exchange p q r (volume elements (p .place)) (volume elements (q .place))))))))
+
+-- ---- from step 5 on
+
+abbrev pub wrong : Ruling
+wrong = Refused WrongAddress
+
+-- "Source and destination must be elements and no transport": type and place of an address, and what is judged by them
+unfoldable pub onPlace : List Slot → ℕ → (Spot → Ruling) → Ruling
+onPlace ss a f = when (leb (kindOf ss a) transport) wrong (f (spotOf ss a))
+
+-- the two places of a move
+unfoldable pub moveSpots : List Slot → List ℕ → List ℕ → List ℕ → List ℕ → ℕ → List ℕ → ℕ → Ruling
+moveSpots ss head generations masks elements h block arm =
+    onPlace ss (word block 4) (λ p. onPlace ss (word block 6) (λ q. moveAt head generations masks elements h block arm p q))
+
+-- the three places of an exchange
+unfoldable pub exchangeSpots : List Slot → List ℕ → List ℕ → List ℕ → List ℕ → ℕ → List ℕ → ℕ → Ruling
+exchangeSpots ss head generations masks elements h block arm =
+    onPlace ss (word block 4)
+    (λ p. onPlace ss (word block 6)
+    (λ q. onPlace ss (word block 8)
+    (λ r. when (eqb (word block 6) (word block 4)) wrong
+    (exchangeAt head generations masks elements h block arm p q r (eqb (word block 8) (word block 4))))))
+
+-- of an exchange, or of a move
+unfoldable pub judgedBy : List Slot → List ℕ → List ℕ → List ℕ → List ℕ → ℕ → List ℕ → Bool → Ruling
+judgedBy ss head generations masks elements h block both =
+    onFound (found Transport ss (armAt ss elements h (word block 2)))
+    (λ arm. when both (exchangeSpots ss head generations masks elements h block arm) (moveSpots ss head generations masks elements h block arm))
+    wrong
+
+-- what the rules say of it
+unfoldable pub carryVerdict : Bool → Tables → ℕ → List ℕ → Verdict
+carryVerdict both t h block = when both (exchange t h block) (move t h block)
 
 -- ---- carried out
 

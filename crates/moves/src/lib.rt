@@ -13,7 +13,7 @@ ghost use Rattle.rules.specs.Order.{outcome};
 ghost use Rattle.rules.specs.Moves.{move as moveVerdict, exchange as exchangeVerdict};
 ghost use Rattle.order.specs.Ending.{ended};
 ghost use Rattle.tables.specs.Ranges.{laid};
-ghost use Rattle.moves.specs.Judged.{shelfAt, meaning, Within, moveAt, exchangeHeld, hinders, exchangeAt, moveBy, exchangeSpots, exchangeBy, unfitAt, fitted, shifted, carried, swapped, shelf, Able, Ready};
+ghost use Rattle.moves.specs.Judged.{shelfAt, meaning, Within, moveAt, exchangeHeld, hinders, exchangeAt, moveSpots, exchangeSpots, judgedBy, carryVerdict, unfitAt, shifted, carried, swapped, shelf, Able, Ready};
 
 // Where the range of the drives stands in the head: "in the order transport, storage, import/export, drive"
 const DRIVES: usize = 3 * layout::RANGE_SIZE;
@@ -36,12 +36,37 @@ pub enum Ruling {
     Conflict,
 }
 
-// MOVE, steps 6 to 8: the transport's place, the source, the destination.
-fn move_at(elements: &[u8], host: u8, arm: usize, from: Spot, to: Spot) -> Ruling
+// "when a drive can't take a cartridge's generation": the element at an address is by its type a drive, and does not take a volume.
+fn unfit(head: &[u8], generations: &[u8], masks: &[u8], kind: u8, address: u16, volume: u16) -> bool
+    requires { ⌜ headSize ≤ length (now head) ⌝ }
+    ensures { λ r. ⌜ r ≡ unfitAt (now (head .entry)) (now (generations .entry)) (now (masks .entry)) kind address volume ⌝ }
+{
+    if kind != layout::DRIVE {
+        return false;
+    }
+    let first = wire::word_at(head, DRIVES);
+    let drive = fitting::less(address as usize, first as usize);
+    !fitting::drive_takes(generations, masks, drive, volume)
+}
+
+// MOVE, steps 6 to 8, and what stands behind them: the transport's place, the source, the destination.
+fn move_at(
+    head: &[u8],
+    elements: &[u8],
+    generations: &[u8],
+    masks: &[u8],
+    host: u8,
+    block: &[u8],
+    arm: usize,
+    from: Spot,
+    to: Spot,
+) -> Ruling
+    requires { ⌜ headSize ≤ length (now head) ⌝ }
+    requires { ⌜ length (now block) ≡ 12 ⌝ }
     requires { ⌜ arm < places (now elements) ⌝ }
     requires { ⌜ from .place < places (now elements) ⌝ }
     requires { ⌜ to .place < places (now elements) ⌝ }
-    ensures { λ r. ⌜ r ≡ moveAt (now (elements .entry)) host arm from to ⌝ }
+    ensures { λ r. ⌜ r ≡ moveAt (now (head .entry)) (now (generations .entry)) (now (masks .entry)) (now (elements .entry)) host (now (block .entry)) arm from to ⌝ }
     ensures { λ r. ⌜ Within (places (now (elements .entry))) r ⌝ }
 {
     if arms::place_held(elements, host, arm) {
@@ -60,19 +85,31 @@ fn move_at(elements: &[u8], host: u8, arm: usize, from: Spot, to: Spot) -> Rulin
     if tables::element::volume(elements, to.place) != 0 {
         return Ruling::Refused(Cause::DestinationFull);
     }
+    let address = wire::word_at(block, 6);
+    if unfit(head, generations, masks, to.kind, address, volume) {
+        return Ruling::Refused(Cause::IncompatibleMedium);
+    }
     Ruling::Move { from, to, volume }
 }
 
-// MOVE, steps 5 to 8: "bytes 2-3 transport, 4-5 source, 6-7 destination"
-fn judge_move(runs: [Range; 4], elements: &[u8], host: u8, block: &[u8]) -> Ruling
+// MOVE from step 5 on, from the transport's place on: "4-5 source, 6-7 destination"
+fn move_spots(
+    runs: [Range; 4],
+    head: &[u8],
+    elements: &[u8],
+    generations: &[u8],
+    masks: &[u8],
+    host: u8,
+    block: &[u8],
+    arm: usize,
+) -> Ruling
+    requires { ⌜ headSize ≤ length (now head) ⌝ }
     requires { ⌜ length (laid runs) ≡ places (now elements) ⌝ }
     requires { ⌜ length (now block) ≡ 12 ⌝ }
-    ensures { λ r. ⌜ r ≡ moveBy (laid runs) (now (elements .entry)) host (now (block .entry)) ⌝ }
+    requires { ⌜ arm < places (now elements) ⌝ }
+    ensures { λ r. ⌜ r ≡ moveSpots (laid runs) (now (head .entry)) (now (generations .entry)) (now (masks .entry)) (now (elements .entry)) host (now (block .entry)) arm ⌝ }
     ensures { λ r. ⌜ Within (places (now (elements .entry))) r ⌝ }
 {
-    let Found::At(arm) = arms::arm_of(runs, elements, host, wire::word_at(block, 2)) else {
-        return Ruling::Refused(Cause::WrongAddress);
-    };
     let from = tables::spot_of(runs, wire::word_at(block, 4) as u32);
     if from.kind <= layout::TRANSPORT {
         return Ruling::Refused(Cause::WrongAddress);
@@ -81,7 +118,17 @@ fn judge_move(runs: [Range; 4], elements: &[u8], host: u8, block: &[u8]) -> Ruli
     if to.kind <= layout::TRANSPORT {
         return Ruling::Refused(Cause::WrongAddress);
     }
-    move_at(elements, host, arm, from, to)
+    move_at(
+        head,
+        elements,
+        generations,
+        masks,
+        host,
+        block,
+        arm,
+        from,
+        to,
+    )
 }
 
 // EXCHANGE, step 6: whether an element touched is held by another host.
@@ -122,21 +169,28 @@ fn hinders(elements: &[u8], second: usize, same: bool) -> bool
     tables::element::volume(elements, second) != 0
 }
 
-// EXCHANGE, steps 6 to 8. `same`: the second destination is the source.
+// EXCHANGE, steps 6 to 8, and what stands behind them: the volume that is brought goes to bytes 6-7, the one displaced to bytes 8-9. `same`: the second
+// destination is the source.
 fn exchange_at(
+    head: &[u8],
     elements: &[u8],
+    generations: &[u8],
+    masks: &[u8],
     host: u8,
+    block: &[u8],
     arm: usize,
     from: Spot,
     first: Spot,
     second: Spot,
     same: bool,
 ) -> Ruling
+    requires { ⌜ headSize ≤ length (now head) ⌝ }
+    requires { ⌜ length (now block) ≡ 12 ⌝ }
     requires { ⌜ arm < places (now elements) ⌝ }
     requires { ⌜ from .place < places (now elements) ⌝ }
     requires { ⌜ first .place < places (now elements) ⌝ }
     requires { ⌜ second .place < places (now elements) ⌝ }
-    ensures { λ r. ⌜ r ≡ exchangeAt (now (elements .entry)) host arm from first second same ⌝ }
+    ensures { λ r. ⌜ r ≡ exchangeAt (now (head .entry)) (now (generations .entry)) (now (masks .entry)) (now (elements .entry)) host (now (block .entry)) arm from first second same ⌝ }
     ensures { λ r. ⌜ Within (places (now (elements .entry))) r ⌝ }
 {
     if exchange_held(elements, host, arm, from.place, first.place, second.place) {
@@ -153,6 +207,14 @@ fn exchange_at(
     if hinders(elements, second.place, same) {
         return Ruling::Refused(Cause::DestinationFull);
     }
+    let nearer = wire::word_at(block, 6);
+    if unfit(head, generations, masks, first.kind, nearer, brought) {
+        return Ruling::Refused(Cause::IncompatibleMedium);
+    }
+    let farther = wire::word_at(block, 8);
+    if unfit(head, generations, masks, second.kind, farther, displaced) {
+        return Ruling::Refused(Cause::IncompatibleMedium);
+    }
     Ruling::Exchange {
         from,
         first,
@@ -162,12 +224,22 @@ fn exchange_at(
     }
 }
 
-// EXCHANGE, steps 5 to 8, from the transport's place on: "4-5 source, 6-7 first destination, 8-9 second"
-fn exchange_spots(runs: [Range; 4], elements: &[u8], host: u8, block: &[u8], arm: usize) -> Ruling
+// EXCHANGE from step 5 on, from the transport's place on: "4-5 source, 6-7 first destination, 8-9 second"
+fn exchange_spots(
+    runs: [Range; 4],
+    head: &[u8],
+    elements: &[u8],
+    generations: &[u8],
+    masks: &[u8],
+    host: u8,
+    block: &[u8],
+    arm: usize,
+) -> Ruling
+    requires { ⌜ headSize ≤ length (now head) ⌝ }
     requires { ⌜ length (laid runs) ≡ places (now elements) ⌝ }
     requires { ⌜ length (now block) ≡ 12 ⌝ }
     requires { ⌜ arm < places (now elements) ⌝ }
-    ensures { λ r. ⌜ r ≡ exchangeSpots (laid runs) (now (elements .entry)) host (now (block .entry)) arm ⌝ }
+    ensures { λ r. ⌜ r ≡ exchangeSpots (laid runs) (now (head .entry)) (now (generations .entry)) (now (masks .entry)) (now (elements .entry)) host (now (block .entry)) arm ⌝ }
     ensures { λ r. ⌜ Within (places (now (elements .entry))) r ⌝ }
 {
     let source = wire::word_at(block, 4);
@@ -188,73 +260,45 @@ fn exchange_spots(runs: [Range; 4], elements: &[u8], host: u8, block: &[u8], arm
     if nearer == source {
         return Ruling::Refused(Cause::WrongAddress);
     }
-    exchange_at(elements, host, arm, from, first, second, farther == source)
+    exchange_at(
+        head,
+        elements,
+        generations,
+        masks,
+        host,
+        block,
+        arm,
+        from,
+        first,
+        second,
+        farther == source,
+    )
 }
 
-// EXCHANGE, steps 5 to 8: "2-3 transport"
-fn judge_exchange(runs: [Range; 4], elements: &[u8], host: u8, block: &[u8]) -> Ruling
+// From step 5 on: "bytes 2-3 transport", and behind it the places of an EXCHANGE or a MOVE.
+fn judge(
+    runs: [Range; 4],
+    head: &[u8],
+    elements: &[u8],
+    generations: &[u8],
+    masks: &[u8],
+    host: u8,
+    block: &[u8],
+    exchange: bool,
+) -> Ruling
+    requires { ⌜ headSize ≤ length (now head) ⌝ }
     requires { ⌜ length (laid runs) ≡ places (now elements) ⌝ }
     requires { ⌜ length (now block) ≡ 12 ⌝ }
-    ensures { λ r. ⌜ r ≡ exchangeBy (laid runs) (now (elements .entry)) host (now (block .entry)) ⌝ }
+    ensures { λ r. ⌜ r ≡ judgedBy (laid runs) (now (head .entry)) (now (generations .entry)) (now (masks .entry)) (now (elements .entry)) host (now (block .entry)) exchange ⌝ }
     ensures { λ r. ⌜ Within (places (now (elements .entry))) r ⌝ }
 {
     let Found::At(arm) = arms::arm_of(runs, elements, host, wire::word_at(block, 2)) else {
         return Ruling::Refused(Cause::WrongAddress);
     };
-    exchange_spots(runs, elements, host, block, arm)
-}
-
-// "when a drive can't take a cartridge's generation": the element at an address is by its type a drive, and does not take a volume.
-fn unfit(head: &[u8], generations: &[u8], masks: &[u8], kind: u8, address: u16, volume: u16) -> bool
-    requires { ⌜ headSize ≤ length (now head) ⌝ }
-    ensures { λ r. ⌜ r ≡ unfitAt (now (head .entry)) (now (generations .entry)) (now (masks .entry)) kind address volume ⌝ }
-{
-    if kind != layout::DRIVE {
-        return false;
+    if exchange {
+        return exchange_spots(runs, head, elements, generations, masks, host, block, arm);
     }
-    let first = wire::word_at(head, DRIVES);
-    let drive = fitting::less(address as usize, first as usize);
-    !fitting::drive_takes(generations, masks, drive, volume)
-}
-
-// "The new refusal stands after step 8, for a move or either leg of an exchange that ends in a drive": what was judged, or that refusal. The volume that was
-// brought goes to bytes 6-7, the one displaced to bytes 8-9.
-fn fitted(head: &[u8], generations: &[u8], masks: &[u8], block: &[u8], ruling: Ruling) -> Ruling
-    requires { ⌜ headSize ≤ length (now head) ⌝ }
-    requires { ⌜ length (now block) ≡ 12 ⌝ }
-    ensures { λ r. ⌜ r ≡ fitted (now (head .entry)) (now (generations .entry)) (now (masks .entry)) (now (block .entry)) ruling ⌝ }
-{
-    let nearer = wire::word_at(block, 6);
-    let farther = wire::word_at(block, 8);
-    match ruling {
-        Ruling::Move { to, volume, .. } => {
-            if unfit(head, generations, masks, to.kind, nearer, volume) {
-                return Ruling::Refused(Cause::IncompatibleMedium);
-            }
-            return ruling;
-        }
-        Ruling::Exchange {
-            first,
-            second,
-            brought,
-            displaced,
-            ..
-        } => {
-            if unfit(head, generations, masks, first.kind, nearer, brought) {
-                return Ruling::Refused(Cause::IncompatibleMedium);
-            }
-            if unfit(head, generations, masks, second.kind, farther, displaced) {
-                return Ruling::Refused(Cause::IncompatibleMedium);
-            }
-            return ruling;
-        }
-        Ruling::Refused(_) => {
-            return ruling;
-        }
-        Ruling::Conflict => {
-            return ruling;
-        }
-    }
+    move_spots(runs, head, elements, generations, masks, host, block, arm)
 }
 
 // "a volume leaving a storage element takes that address; leaving any other, it keeps the source it had, none included"
@@ -369,6 +413,37 @@ fn carry_out(head: &mut [u8], elements: &mut [u8], host: u8, block: &[u8], rulin
     }
 }
 
+// Both commands from step 5 on. They have one way through, so that each function above has one caller and the compiler puts it in place: what is judged then
+// stays in registers.
+fn medium(
+    runs: [Range; 4],
+    head: &mut [u8],
+    elements: &mut [u8],
+    generations: &[u8],
+    masks: &[u8],
+    host: u8,
+    block: &[u8],
+    exchange: bool,
+) -> Reply
+    requires { ⌜ Ready runs (now head) (now elements) ⌝ }
+    requires { ⌜ 1 ≤ host ⌝ }
+    requires { ⌜ host ≤ hosts ⌝ }
+    requires { ⌜ length (now block) ≡ 12 ⌝ }
+    ensures { λ r. ⌜ ((rest : Rest) (buffer : List ℕ) → rest .generations ≡ now (generations .entry) → rest .masks ≡ now (masks .entry) → ended r (lent (now (head .exit)) (now (elements .exit)) rest) buffer ≡ outcome (lent (now (head .entry)) (now (elements .entry)) rest) buffer (carryVerdict exchange (lent (now (head .entry)) (now (elements .entry)) rest) host (now (block .entry)))) ⌝ }
+{
+    let ruling = judge(
+        runs,
+        head,
+        elements,
+        generations,
+        masks,
+        host,
+        block,
+        exchange,
+    );
+    carry_out(head, elements, host, block, ruling)
+}
+
 // MOVE MEDIUM from step 5 on.
 pub fn move_medium(
     runs: [Range; 4],
@@ -385,9 +460,7 @@ pub fn move_medium(
     requires { ⌜ length (now block) ≡ 12 ⌝ }
     ensures { λ r. ⌜ ((rest : Rest) (buffer : List ℕ) → rest .generations ≡ now (generations .entry) → rest .masks ≡ now (masks .entry) → ended r (lent (now (head .exit)) (now (elements .exit)) rest) buffer ≡ outcome (lent (now (head .entry)) (now (elements .entry)) rest) buffer (moveVerdict (lent (now (head .entry)) (now (elements .entry)) rest) host (now (block .entry)))) ⌝ }
 {
-    let judged = judge_move(runs, elements, host, block);
-    let ruling = fitted(head, generations, masks, block, judged);
-    carry_out(head, elements, host, block, ruling)
+    medium(runs, head, elements, generations, masks, host, block, false)
 }
 
 // EXCHANGE MEDIUM from step 5 on.
@@ -406,7 +479,5 @@ pub fn exchange_medium(
     requires { ⌜ length (now block) ≡ 12 ⌝ }
     ensures { λ r. ⌜ ((rest : Rest) (buffer : List ℕ) → rest .generations ≡ now (generations .entry) → rest .masks ≡ now (masks .entry) → ended r (lent (now (head .exit)) (now (elements .exit)) rest) buffer ≡ outcome (lent (now (head .entry)) (now (elements .entry)) rest) buffer (exchangeVerdict (lent (now (head .entry)) (now (elements .entry)) rest) host (now (block .entry)))) ⌝ }
 {
-    let judged = judge_exchange(runs, elements, host, block);
-    let ruling = fitted(head, generations, masks, block, judged);
-    carry_out(head, elements, host, block, ruling)
+    medium(runs, head, elements, generations, masks, host, block, true)
 }

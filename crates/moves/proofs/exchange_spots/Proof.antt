@@ -66,7 +66,12 @@ returns-4 c =
     )
 
 exchange-at-requires : tie.Need-exchange-at-requires
-exchange-at-requires c κs = (search needs, (search recorded depth 4, (search recorded depth 4, search recorded depth 4)))
+exchange-at-requires c κs =
+    let farther = c .before .before .before in
+    let nearer = farther .before .before .before in
+    let source = nearer .before .before .before in
+    let start = source .before .before .before .before .before .before .before .before .before in
+    (start .pre .0, (start .pre .1 .1 .0, (start .pre .1 .1 .1, (search recorded depth 4, (search recorded depth 4, search recorded depth 4)))))
 
 returns-5 : tie.Need-returns-5
 unfolding exchangeSpots
@@ -83,7 +88,7 @@ returns-5 c =
       place-yes _ _ _ _ _ _ (source .spot-of .ensures) four (from .if1 .left)
           (place-yes _ _ _ _ _ _ (nearer .spot-of2 .ensures) six (first .if2 .left)
           (place-yes _ _ _ _ _ _ (farther .spot-of3 .ensures) eight (second .if3 .left)
-          (eq-not _ _ _ _ _ (λ e. c .before .if4 .left (six ∙ e ∙ sym four)) (same-by _ _ _ _ _ _ _ _ _ _ _ (c .exchange-at .ensures .0) eight four)))),
+          (eq-not _ _ _ _ _ (λ e. c .before .if4 .left (six ∙ e ∙ sym four)) (same-by _ _ _ _ _ _ _ _ _ _ _ _ _ _ _ (c .exchange-at .ensures .0) eight four)))),
       c .exchange-at .ensures .1,
     )
 

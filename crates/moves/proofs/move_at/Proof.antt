@@ -43,9 +43,19 @@ returns-5 : tie.Need-returns-5
 unfolding moveAt
 returns-5 c = (search standing depth 10, tt)
 
+word-at-requires : tie.Need-word-at-requires
+word-at-requires c κs = search needs
+
+unfit-requires : tie.Need-unfit-requires
+unfit-requires c κs = search needs
+
 returns-6 : tie.Need-returns-6
 unfolding moveAt
-returns-6 c = (search standing depth 10, search needs)
+returns-6 c = (search standing depth 12, tt)
+
+returns-7 : tie.Need-returns-7
+unfolding moveAt
+returns-7 c = (search standing depth 12, search needs)
 
 pub move-at-spec : {M : Type 1} → statement M
 move-at-spec =
@@ -61,4 +71,7 @@ move-at-spec =
     returns-4
     volume-requires-2
     returns-5
-    returns-6)
+    word-at-requires
+    unfit-requires
+    returns-6
+    returns-7)
