@@ -12,6 +12,7 @@ static uint8_t tags[3 * SMC_TAG_SIZE];
 static uint8_t blank[SMC_TAG_SIZE];
 static const uint8_t generations[3] = {1, 1, 2};
 static const uint8_t masks[1] = {SMC_MASK_BIT(1)};
+static uint8_t search[SMC_SEARCH_SIZE]; /* all zeros: no search */
 static uint8_t answer[512];
 
 static const smc_tables tables = {
@@ -27,6 +28,8 @@ static const smc_tables tables = {
     .generations_len = sizeof generations,
     .masks = masks,
     .masks_len = sizeof masks,
+    .search = search,
+    .search_len = sizeof search,
 };
 
 static void put16(uint8_t *at, unsigned value)

@@ -12,6 +12,7 @@ static uint8_t tags[3 * SMC_TAG_SIZE];
 static uint8_t blank[SMC_TAG_SIZE];
 static const uint8_t generations[3] = {1, 1, 1};
 static const uint8_t masks[1] = {SMC_MASK_BIT(1)};
+static uint8_t search[SMC_SEARCH_SIZE]; /* all zeros: no search */
 
 static const smc_tables tables = {
     .head = head,
@@ -26,6 +27,8 @@ static const smc_tables tables = {
     .generations_len = sizeof generations,
     .masks = masks,
     .masks_len = sizeof masks,
+    .search = search,
+    .search_len = sizeof search,
 };
 
 /* The elements in the order of their records, which is that of their addresses. */

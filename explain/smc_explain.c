@@ -1,4 +1,4 @@
-/* Why tables are not sound: the clauses of crates/rules/specs/Sound.antt, in their order but for the ranges, and for the generations, which come
+/* Why tables are not sound: the clauses of crates/rules/specs/Sound.antt, in their order but for the ranges, and for the generations and the search, which come
  * behind the number of empty shelves: so the clauses of before keep their numbers. */
 #include "smc_explain.h"
 #include <stdbool.h>
@@ -231,6 +231,25 @@ static smc_fault drives(const library *l)
     return none;
 }
 
+/* ---- the search ---- */
+
+/* "All zeros means no search; only a wrong length, or a field's value that no search could leave, is number 1" */
+static smc_fault search_of(const uint8_t *search, size_t length)
+{
+    bool any = false;
+    if (length != SMC_SEARCH_SIZE)
+        return of_range(SMC_CLAUSE_SEARCH_LENGTH, 0, length, 0);
+    for (size_t at = 0; at < length; at++)
+        any |= search[at] != 0;
+    const unsigned action = search[SMC_SEARCH_ACTION], type = search[SMC_SEARCH_TYPE];
+    const unsigned next = (unsigned)search[SMC_SEARCH_NEXT] << 16 | get16(search + SMC_SEARCH_NEXT + 1);
+    if (any && action != SMC_FIND_IN_RANGE && action != SMC_FIND_ANY_NUMBER)
+        return of_range(SMC_CLAUSE_SEARCH_ACTION, 0, action, 0);
+    if (type > DRIVE)
+        return of_range(SMC_CLAUSE_SEARCH_TYPE, 0, type, 0);
+    return next > BEHIND_LAST ? of_range(SMC_CLAUSE_SEARCH_NEXT, 0, next, 0) : none;
+}
+
 /* ---- the whole ---- */
 
 smc_fault smc_explain(SMC_TABLES)
@@ -260,7 +279,9 @@ smc_fault smc_explain(SMC_TABLES)
         return found;
     if (masks_len != l.ranges[DRIVE - 1].count)
         return of_range(SMC_CLAUSE_MASKS_LENGTH, 0, masks_len, l.ranges[DRIVE - 1].count);
-    return drives(&l);
+    if ((found = drives(&l)).clause)
+        return found;
+    return search_of(search, search_len);
 }
 
 /* ---- in words ---- */
@@ -303,6 +324,10 @@ static const struct {
     [SMC_CLAUSE_GENERATION_NUMBER] = {"a generation is 1 to 8", "generation", DECIMAL},
     [SMC_CLAUSE_MASKS_LENGTH] = {"there is a mask for each drive", "length", DECIMAL},
     [SMC_CLAUSE_DRIVE_TAKES] = {"a full drive takes its volume's generation", "generation", DECIMAL},
+    [SMC_CLAUSE_SEARCH_LENGTH] = {"the search has 41 bytes", "length", DECIMAL},
+    [SMC_CLAUSE_SEARCH_ACTION] = {"a search is all zeros or has action 1 or 5", "action", DECIMAL},
+    [SMC_CLAUSE_SEARCH_TYPE] = {"the type of a search is at most 4", "type", DECIMAL},
+    [SMC_CLAUSE_SEARCH_NEXT] = {"the next address of a search is at most 10000h", "address", HEXADECIMAL},
 };
 
 enum { CLAUSES = sizeof words / sizeof *words };

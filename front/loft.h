@@ -20,7 +20,7 @@ bool loft_fail(loft_fault *fault, int code, const char *format, ...) __attribute
 
 /* ---- The lent tables: one list (tables.c). */
 
-enum { LOFT_HEAD, LOFT_ELEMENTS, LOFT_TAGS, LOFT_BLANK, LOFT_GENERATIONS, LOFT_MASKS, LOFT_TABLES };
+enum { LOFT_HEAD, LOFT_ELEMENTS, LOFT_TAGS, LOFT_BLANK, LOFT_GENERATIONS, LOFT_MASKS, LOFT_SEARCH, LOFT_TABLES };
 
 /* What the lengths of the tables follow from. first and count by type, 1 to 4. */
 typedef struct {
@@ -89,8 +89,9 @@ bool loft_save_file(const char *path, const void *bytes, size_t length, loft_fau
 
 /* ---- The library file (library.c). */
 
-/* 1: head, elements, tags, blank. 2: generations and masks with them; a file of version 1 is read with generation 1 for each reel, and drives that take all. */
-enum { LOFT_VERSION = 2 };
+/* 1: head, elements, tags, blank. 2: generations and masks with them; a file of version 1 is read with generation 1 for each reel, and drives that take all. 3: the search; an
+ * older file is read without one. */
+enum { LOFT_VERSION = 3 };
 
 typedef struct {
     loft_bytes now;

@@ -17,6 +17,7 @@ bool loft_fail(loft_fault *fault, int code, const char *format, ...)
 
 static size_t of_head(const loft_shape *s) { return s ? SMC_HEAD_SIZE : 0; }
 static size_t of_blank(const loft_shape *s) { return s ? SMC_TAG_SIZE : 0; }
+static size_t of_search(const loft_shape *s) { return s ? SMC_SEARCH_SIZE : 0; }
 static size_t of_tags(const loft_shape *s) { return (size_t)SMC_TAG_SIZE * s->volumes; }
 static size_t of_generations(const loft_shape *s) { return s->volumes; }
 static size_t of_masks(const loft_shape *s) { return s->count[SMC_DRIVE]; }
@@ -37,6 +38,7 @@ const loft_table loft_tables[LOFT_TABLES] = {
     [LOFT_BLANK] = {IN(blank), false, of_blank, SMC_TAG_SIZE, ' ', 1},
     [LOFT_GENERATIONS] = {IN(generations), false, of_generations, SMC_MOST_VOLUMES, 1, 2},
     [LOFT_MASKS] = {IN(masks), false, of_masks, SMC_MOST_ELEMENTS, 0xFF, 2},
+    [LOFT_SEARCH] = {IN(search), true, of_search, SMC_SEARCH_SIZE, 0, 3},
 };
 
 smc_tables loft_lend(const loft_bytes *tables)

@@ -103,7 +103,8 @@ void tell_call(FILE *out, const loft_bytes *tables, const loft_call *c)
     static const struct {
         uint8_t first;
         const char *name;
-    } plain[] = {{SMC_TEST_UNIT_READY, "TEST UNIT READY"}, {SMC_REQUEST_SENSE, "REQUEST SENSE"}, {SMC_READ_ELEMENT_STATUS, "READ ELEMENT STATUS"}, {SMC_MODE_SENSE, "MODE SENSE"}};
+    } plain[] = {{SMC_TEST_UNIT_READY, "TEST UNIT READY"}, {SMC_REQUEST_SENSE, "REQUEST SENSE"}, {SMC_READ_ELEMENT_STATUS, "READ ELEMENT STATUS"}, {SMC_MODE_SENSE, "MODE SENSE"},
+                 {SMC_SEND_VOLUME_TAG, "SEND VOLUME TAG"}, {SMC_REQUEST_VOLUME_ELEMENT_ADDRESS, "REQUEST VOLUME ELEMENT ADDRESS"}};
     const uint8_t *b = c->block;
     if (c->host == 0) {
         tell_event(out, tables, c);
@@ -192,7 +193,8 @@ void tell_answer(FILE *out, const loft_bytes *tables, const loft_call *c, const 
     (void)tables;
     if (c->host == 0 || c->block_length == 0 || count == 0)
         return;
-    if (c->block[0] == SMC_READ_ELEMENT_STATUS && count >= SMC_LISTING_HEADER_SIZE)
+    const bool lists = c->block[0] == SMC_READ_ELEMENT_STATUS || c->block[0] == SMC_REQUEST_VOLUME_ELEMENT_ADDRESS;
+    if (lists && count >= SMC_LISTING_HEADER_SIZE)
         tell_listing(out, a, count);
     else if (c->block[0] == SMC_REQUEST_SENSE && count == SMC_SENSE_SIZE)
         fprintf(out, "    is told %X/%02X/%02X: %s\n", a[SMC_SENSE_KEY], a[SMC_SENSE_ASC], a[SMC_SENSE_ASCQ],

@@ -5,17 +5,18 @@
  * What a caller may rely on, for any bytes, any lengths and any numbers:
  * - Every call returns. It reads and writes nothing outside the lent slices; a slice of length 0 may be a null pointer.
  * - number 0: the call was carried out; status, count, the tables and the answer are as the rules say.
- * - number 1 to 9: the call was refused; no byte of head, elements or answer has changed, and status and count are 0.
+ * - number 1 to 9: the call was refused; no byte of head, elements, search or answer has changed, and status and count are 0.
  * - number 10, of smc_replay alone: a line of the log is at fault. What the lines before it did stays done, and is counted.
- * - CHECK CONDITION (02h) and RESERVATION CONFLICT (18h) change no element, and of the head only the calling host's five bytes.
+ * - CHECK CONDITION (02h) and RESERVATION CONFLICT (18h) change no element and no search, and of the head only the calling host's five bytes.
  * - After a call with any number but 1 the last two bytes of the head are the number of empty storage elements. MOVE and EXCHANGE with GOOD
  *   alone change it, sent or replayed.
- * - Bytes of the answer past count are as they were. count is above 0 only for GOOD of REQUEST SENSE, READ ELEMENT STATUS
- *   and MODE SENSE.
+ * - The search changes by SEND VOLUME TAG and REQUEST VOLUME ELEMENT ADDRESS with GOOD and by a reset alone, sent or replayed.
+ * - Bytes of the answer past count are as they were. count is above 0 only for GOOD of REQUEST SENSE, READ ELEMENT STATUS, MODE SENSE
+ *   and REQUEST VOLUME ELEMENT ADDRESS.
  * - tags, blank, generations and masks are never written. Sound tables stay sound: no call leaves a volume in a drive that does not take it.
  *
  * What a caller owes:
- * - Each pointer is valid for its length: readable, and head, elements and answer writable. Length 0 asks nothing of its pointer.
+ * - Each pointer is valid for its length: readable, and head, elements, search and answer writable. Length 0 asks nothing of its pointer.
  * - No two of the lent slices overlap.
  * - No two calls at once on the same tables, and nobody writes a lent slice while a call runs.
  *
@@ -23,7 +24,7 @@
  * - x86-64 code for the System V calling convention (Linux). Of other symbols it needs memcpy and memset alone.
  * - No slice needs an alignment. It has no state, no heap and no locks: all it knows between two calls is in the tables. Threads may call it
  *   at once on separate tables.
- * - A call takes less than 2.5 KB of stack (2.4 measured), a replay less than 3 (2.8 measured). In a program that binds symbols lazily the
+ * - A call takes less than 3 KB of stack (2.6 measured), a replay less than 3.5 (3.1 measured). In a program that binds symbols lazily the
  *   first call takes about 5.4 KB, once: the dynamic linker's look-up of memset. Linked with -static or -Wl,-z,now it does not.
  * - Every call first checks all tables, in one pass. Measured by the benchmark in tests/: a readiness test takes about 0.1 microseconds at 7
  *   elements and 1.5 at 512; at 512, MOVE, EXCHANGE and MODE SENSE take no more than can be told from that; a whole listing with tags, and a
@@ -39,9 +40,10 @@
 extern "C" {
 #endif
 
-/* The interface's version. It rises with each change that moves a layout, lends a further table or adds an entry. 4: every entry is lent two
- * further tables behind blank, generations and masks. A front end that spreads an smc_tables by SMC_LEND sets the four new fields of it. */
-#define SMC_INTERFACE 4
+/* The interface's version. It rises with each change that moves a layout, lends a further table or adds an entry. 5: every entry is lent one
+ * further table behind masks, search, and there are two entries more. A front end that spreads an smc_tables by SMC_LEND sets the two new fields
+ * of it; tables that were kept from before are lent with SMC_SEARCH_SIZE zeros, which is no search. */
+#define SMC_INTERFACE 5
 
 typedef struct {
     uint8_t number;     /* house number, 0 for none */
@@ -64,7 +66,7 @@ enum {
     SMC_TABLES_NOT_SOUND = 1,
     SMC_UNKNOWN_HOST = 2,       /* host is not 1 to 8 */
     SMC_BLOCK_LENGTH = 3,       /* the command block is empty or of wrong length */
-    SMC_PARAMETER_LENGTH = 4,   /* RESERVE: not as many bytes as the block says; other known commands: not none */
+    SMC_PARAMETER_LENGTH = 4,   /* RESERVE, SEND VOLUME TAG: not as many bytes as the block says; other known commands: not none */
     SMC_ANSWER_TOO_SHORT = 5,   /* the answer buffer is shorter than the bytes to be returned */
     SMC_NO_IMPORT_EXPORT = 6,   /* the address is no import/export element */
     SMC_REMOVAL_PREVENTED = 7,  /* preventers and lowest say by how many hosts, and the lowest of them */
@@ -85,10 +87,12 @@ enum {
     SMC_MOVE_MEDIUM = 0xA5,
     SMC_EXCHANGE_MEDIUM = 0xA6,
     SMC_READ_ELEMENT_STATUS = 0xB8,
-    SMC_MODE_SENSE = 0x1A
+    SMC_MODE_SENSE = 0x1A,
+    SMC_SEND_VOLUME_TAG = 0xB6,
+    SMC_REQUEST_VOLUME_ELEMENT_ADDRESS = 0xB5
 };
 
-/* The types of elements; READ ELEMENT STATUS takes 0 for all. */
+/* The types of elements; a listing and a search take 0 for all. */
 enum { SMC_TRANSPORT = 1, SMC_STORAGE = 2, SMC_IMPORT_EXPORT = 3, SMC_DRIVE = 4 };
 
 /* ---- Sizes and offsets in bytes, and limits. Numbers in slices have their high byte first. */
@@ -138,6 +142,29 @@ enum { SMC_TRANSPORT = 1, SMC_STORAGE = 2, SMC_IMPORT_EXPORT = 3, SMC_DRIVE = 4 
 #define SMC_MOST_GENERATION 8
 #define SMC_MASK_BIT(generation) (1u << ((generation) - 1))
 
+/* The search of the unit: what SEND VOLUME TAG looks for, and where REQUEST VOLUME ELEMENT ADDRESS goes on. All zeros: no search. Whoever makes
+ * fresh tables stores that; from then on the calls keep it. */
+#define SMC_SEARCH_SIZE 41
+#define SMC_SEARCH_TEMPLATE 0  /* 32 bytes, compared with the first 32 of a label */
+#define SMC_SEARCH_TYPE 32     /* 0 for all */
+#define SMC_SEARCH_ACTION 33
+#define SMC_SEARCH_LEAST 34    /* least sequence number, two bytes */
+#define SMC_SEARCH_GREATEST 36 /* greatest sequence number, two bytes */
+#define SMC_SEARCH_NEXT 38     /* the lowest address that may still be told, three bytes; 10000h behind the last */
+#define SMC_TEMPLATE_SIZE 32
+#define SMC_ANY_CHARACTER 0x3F /* '?' in a template */
+#define SMC_ANY_STRING 0x2A    /* '*': what stands behind it is not compared */
+#define SMC_LABEL_SEQUENCE 34  /* in a label: the sequence number, two bytes */
+
+/* The actions of a search: labels in the range of sequence numbers, labels of any. */
+enum { SMC_FIND_IN_RANGE = 1, SMC_FIND_ANY_NUMBER = 5 };
+
+/* The list of SEND VOLUME TAG: a template, two zeros, the least sequence number, two zeros, the greatest. */
+#define SMC_TAG_LIST_SIZE 40
+#define SMC_TAG_LIST_TEMPLATE 0
+#define SMC_TAG_LIST_LEAST 34
+#define SMC_TAG_LIST_GREATEST 38
+
 /* A descriptor of RESERVE's list. */
 #define SMC_LIST_DESCRIPTOR_SIZE 6
 #define SMC_LIST_NUMBER 2      /* two bytes */
@@ -154,6 +181,7 @@ enum { SMC_TRANSPORT = 1, SMC_STORAGE = 2, SMC_IMPORT_EXPORT = 3, SMC_DRIVE = 4 
 #define SMC_LISTING_HEADER_SIZE 8
 #define SMC_LISTING_FIRST 0    /* first address, two bytes */
 #define SMC_LISTING_NUMBER 2   /* elements chosen, two bytes */
+#define SMC_LISTING_ACTION 4   /* of REQUEST VOLUME ELEMENT ADDRESS: the search's action, 0 without a search */
 #define SMC_LISTING_BYTES 5    /* bytes of all pages, three bytes */
 #define SMC_PAGE_HEADER_SIZE 8
 #define SMC_PAGE_TYPE 0
@@ -192,13 +220,13 @@ enum { SMC_TRANSPORT = 1, SMC_STORAGE = 2, SMC_IMPORT_EXPORT = 3, SMC_DRIVE = 4 
 
 /* ---- What a call is lent. */
 
-/* The lent tables. No two of the lent slices overlap. head, elements and answer may change; the others are read only. generations has a byte for
- * each volume, as many as there are tags; masks has one for each drive. A drive that is full takes the generation of what stands in it. Else the
- * tables are not sound. */
+/* The lent tables. No two of the lent slices overlap. head, elements, search and answer may change; the others are read only. generations has a byte for
+ * each volume, as many as there are tags; masks has one for each drive. A drive that is full takes the generation of what stands in it. search is
+ * SMC_SEARCH_SIZE zeros, or has an action that there is, a type of at most 4 and a next address of at most 10000h. Else the tables are not sound. */
 #define SMC_TABLES                                                                                                    \
     uint8_t *head, size_t head_len, uint8_t *elements, size_t elements_len, const uint8_t *tags, size_t tags_len,     \
         const uint8_t *blank, size_t blank_len, const uint8_t *generations, size_t generations_len, const uint8_t *masks, \
-        size_t masks_len
+        size_t masks_len, uint8_t *search, size_t search_len
 #define SMC_COMMAND                                                                                                   \
     uint32_t host, const uint8_t *block, size_t block_len, const uint8_t *parameters, size_t parameters_len,          \
         uint8_t *answer, size_t answer_len
@@ -218,15 +246,17 @@ typedef struct {
     size_t generations_len;
     const uint8_t *masks;
     size_t masks_len;
+    uint8_t *search;
+    size_t search_len;
 } smc_tables;
 
 #define SMC_LEND(t)                                                                                                   \
     (t)->head, (t)->head_len, (t)->elements, (t)->elements_len, (t)->tags, (t)->tags_len, (t)->blank, (t)->blank_len,  \
-        (t)->generations, (t)->generations_len, (t)->masks, (t)->masks_len
+        (t)->generations, (t)->generations_len, (t)->masks, (t)->masks_len, (t)->search, (t)->search_len
 
 /* ---- Commands. Numbers 1 to 5. */
 
-/* Any command block. The nine below it answer exactly the same, whatever first byte they are handed. An unknown first byte is
+/* Any command block. The eleven below it answer exactly the same, whatever first byte they are handed. An unknown first byte is
  * CHECK CONDITION with 5/20/00. */
 smc_reply smc_command(SMC_TABLES, SMC_COMMAND);
 
@@ -271,6 +301,18 @@ smc_reply smc_read_element_status(SMC_TABLES, SMC_COMMAND);
  * many as the allocation has room for; lengths in it are those of the whole. An answer over 256 bytes is refused with 5/24/00. */
 smc_reply smc_mode_sense(SMC_TABLES, SMC_COMMAND);
 
+/* Find by label. There is one search for the unit, whoever sent it. Both commands are RESERVATION CONFLICT where any other host holds the unit or any
+ * element; a host that would not be disturbed between the two reserves the unit first. */
+
+/* With GOOD a search begins, in place of the one before: block byte 1 the type (0 all), bytes 2-3 where it starts, byte 5 the action, bytes 8-9 the
+ * list's length, which is 40. It is kept as sent, and no element is looked at yet. Any other end keeps the search before. */
+smc_reply smc_send_volume_tag(SMC_TABLES, SMC_COMMAND);
+
+/* Returns a listing, as READ ELEMENT STATUS does and by the same rule of choice, of the full elements whose labels match the search now, from its next
+ * address on; the allocation is bytes 7-8. The header's fifth byte is the search's action. What is returned whole counts as told, and the next
+ * address is behind it: no address is told twice in one search. Without a search, and when all is told, a header without elements. */
+smc_reply smc_request_volume_element_address(SMC_TABLES, SMC_COMMAND);
+
 /* ---- Events. Their status and count are 0, and they know no reservation. */
 
 /* A person put a volume into an import/export element. Numbers 1, 6, 7, 8, 9. It stands there with mark 1 and without a source; each host
@@ -280,7 +322,7 @@ smc_reply smc_import(SMC_TABLES, uint32_t address, uint32_t volume);
 /* A person took the volume out. Numbers 1, 6, 7, 8. The element is empty; attention as for import. */
 smc_reply smc_export(SMC_TABLES, uint32_t address);
 
-/* The unit was reset. Number 1. No reservation, no prevent bit and no sense is left; every host has attention 29h/00h; volumes stay. */
+/* The unit was reset. Number 1. No reservation, no prevent bit, no sense and no search is left; every host has attention 29h/00h; volumes stay. */
 smc_reply smc_reset(SMC_TABLES);
 
 /* ---- Replay of a recorded log. Numbers 1 and 10. */
@@ -297,13 +339,14 @@ smc_reply smc_reset(SMC_TABLES);
  *   parameter bytes (upper-case hexadecimal, two digits a byte; nothing for none). At most 512 bytes before the line feed.
  * - number 1: the tables are not sound. It comes first: with an empty log and with budget 0 too. Nothing has changed, lines and place are 0.
  * - number 10: the line at `place` is of another form, or has another number than `expected` says. A rest without a line feed is of another form.
- *   The lines before it stay applied and counted: head and elements are as after the line before. Put the line right, and go on from it.
+ *   The lines before it stay applied and counted: head, elements and search are as after the line before. Put the line right, and go on from it.
  * - number 0: so many lines as the budget says were applied, or all of the log. The line behind them was not looked at.
  * - To go on, lend the log from `place` on, with `expected` as it came back. Two calls, the first of which ended with 0, end as one with the
  *   sum of their budgets.
  * - A line that the core refuses by number (an import into a full element, host 9, an empty block) has the form: it changes nothing and
  *   counts as applied. So does one that ends in CHECK CONDITION or RESERVATION CONFLICT.
- * - Answers are not kept: no buffer is lent, a listing in the log is not written, and number 5 does not arise. The reply of a line is not kept
+ * - Answers are not kept: no buffer is lent, a listing in the log is not written (what a search told in it counts as told all the same), and number 5
+ *   does not arise. The reply of a line is not kept
  *   either; with budget 1 the tables can be looked at behind each line (examples/reel.c).
  * - The tables are checked once a call and not once a line: a long log in few calls is much faster than its calls made one by one. */
 smc_replayed smc_replay(SMC_TABLES, const uint8_t *log, size_t log_len, uint32_t expected, uint32_t budget);

@@ -44,7 +44,11 @@ typedef enum {
     SMC_CLAUSE_GENERATIONS_LENGTH, /* value: the length; other: how many tags there are */
     SMC_CLAUSE_GENERATION_NUMBER,  /* value: the generation; other: the volume number */
     SMC_CLAUSE_MASKS_LENGTH,       /* value: the length; other: how many drives there are */
-    SMC_CLAUSE_DRIVE_TAKES         /* element, a full drive; value: its volume's generation; other: its mask, which lacks it */
+    SMC_CLAUSE_DRIVE_TAKES,        /* element, a full drive; value: its volume's generation; other: its mask, which lacks it */
+    SMC_CLAUSE_SEARCH_LENGTH,      /* value: the length */
+    SMC_CLAUSE_SEARCH_ACTION,      /* value: the action; 0 where another byte is not 0 */
+    SMC_CLAUSE_SEARCH_TYPE,        /* value: the type */
+    SMC_CLAUSE_SEARCH_NEXT         /* value: the next address */
 } smc_clause;
 
 /* The first clause that fails, and where. What a clause does not speak of is 0. */

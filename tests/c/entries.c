@@ -12,6 +12,8 @@ _Static_assert(SMC_LARGEST_ANSWER == SMC_LISTING_HEADER_SIZE + SMC_RANGES * SMC_
                    + SMC_MOST_ELEMENTS * SMC_TAGGED_DESCRIPTOR_SIZE, "the largest answer");
 _Static_assert(SMC_MASK_BIT(SMC_LEAST_GENERATION) == 0x01 && SMC_MASK_BIT(SMC_MOST_GENERATION) == 0x80, "a mask");
 _Static_assert(SMC_LARGEST_MODE_ANSWER == UINT8_MAX, "the largest allocation of MODE SENSE");
+_Static_assert(SMC_SEARCH_TYPE == SMC_SEARCH_TEMPLATE + SMC_TEMPLATE_SIZE && SMC_SEARCH_SIZE == SMC_SEARCH_NEXT + 3, "a search");
+_Static_assert(SMC_TAG_LIST_SIZE == SMC_TAG_LIST_GREATEST + 2 && SMC_LABEL_SEQUENCE + 2 == SMC_TAG_SIZE, "the list of a search, and a label");
 _Static_assert(sizeof(smc_reply) == 8, "the reply");
 _Static_assert(sizeof(smc_replayed) == 24 && offsetof(smc_replayed, place) == 8 && offsetof(smc_replayed, expected) == 16, "what a replay ends with");
 
@@ -27,10 +29,11 @@ LENT(tags, 3 * SMC_TAG_SIZE);
 LENT(blank, SMC_TAG_SIZE);
 LENT(generations, 3);
 LENT(masks, 1);
+LENT(search, SMC_SEARCH_SIZE);
 LENT(answer, 512);
 LENT(log_lent, 1024);
 
-static uint8_t head_before[SMC_HEAD_SIZE], elements_before[7 * SMC_ELEMENT_SIZE], answer_before[512];
+static uint8_t head_before[SMC_HEAD_SIZE], elements_before[7 * SMC_ELEMENT_SIZE], search_before[SMC_SEARCH_SIZE], answer_before[512];
 static uint8_t tags_before[3 * SMC_TAG_SIZE], blank_before[SMC_TAG_SIZE], generations_before[3], masks_before[1];
 static int passed, failed;
 
@@ -47,6 +50,8 @@ static const smc_tables lent = {
     .generations_len = 3,
     .masks = masks_room + GUARD,
     .masks_len = 1,
+    .search = search_room + GUARD,
+    .search_len = SMC_SEARCH_SIZE,
 };
 static const smc_tables nothing;
 
@@ -93,6 +98,7 @@ static void small_library(void)
     guard(blank_room, SMC_TAG_SIZE, 0x20);
     guard(generations_room, 3, 1);
     guard(masks_room, 1, 0x01);
+    guard(search_room, SMC_SEARCH_SIZE, 0);
     guard(answer_room, 512, 0xEE);
     for (int k = 0; k < 4; k++) {
         put16(head + 4 * k, ranges[k][0]);
@@ -107,6 +113,7 @@ static void remember(void)
 {
     memcpy(head_before, head, sizeof head_before);
     memcpy(elements_before, elements, sizeof elements_before);
+    memcpy(search_before, search, sizeof search_before);
     memcpy(answer_before, answer, sizeof answer_before);
     memcpy(tags_before, tags, sizeof tags_before);
     memcpy(blank_before, blank, sizeof blank_before);
@@ -119,7 +126,7 @@ static void always(const char *call, smc_reply reply)
 {
     expect(guarded(head_room, SMC_HEAD_SIZE) && guarded(elements_room, 7 * SMC_ELEMENT_SIZE)
                && guarded(tags_room, 3 * SMC_TAG_SIZE) && guarded(blank_room, SMC_TAG_SIZE) && guarded(generations_room, 3)
-               && guarded(masks_room, 1) && guarded(answer_room, 512),
+               && guarded(masks_room, 1) && guarded(search_room, SMC_SEARCH_SIZE) && guarded(answer_room, 512),
            call, "a byte outside a lent slice changed");
     expect(!memcmp(tags, tags_before, sizeof tags_before) && !memcmp(blank, blank_before, sizeof blank_before), call, "a label changed");
     expect(!memcmp(generations, generations_before, sizeof generations_before) && !memcmp(masks, masks_before, sizeof masks_before), call,
@@ -131,7 +138,7 @@ static void always(const char *call, smc_reply reply)
 static int untouched(void)
 {
     return !memcmp(head, head_before, sizeof head_before) && !memcmp(elements, elements_before, sizeof elements_before)
-           && !memcmp(answer, answer_before, sizeof answer_before);
+           && !memcmp(search, search_before, sizeof search_before) && !memcmp(answer, answer_before, sizeof answer_before);
 }
 
 static void refused(const char *call, smc_reply reply, int number)
@@ -193,7 +200,8 @@ static void every_entry_moves(void)
                    {"smc_request_sense", smc_request_sense}, {"smc_reserve", smc_reserve},
                    {"smc_release", smc_release},           {"smc_prevent_allow", smc_prevent_allow},
                    {"smc_move_medium", smc_move_medium},   {"smc_exchange_medium", smc_exchange_medium},
-                   {"smc_read_element_status", smc_read_element_status}, {"smc_mode_sense", smc_mode_sense}};
+                   {"smc_read_element_status", smc_read_element_status}, {"smc_mode_sense", smc_mode_sense},
+                   {"smc_send_volume_tag", smc_send_volume_tag}, {"smc_request_volume_element_address", smc_request_volume_element_address}};
     for (size_t i = 0; i < sizeof entries / sizeof *entries; i++) {
         small_library();
         ended(entries[i].name, send(entries[i].to, 1, p1, 12), SMC_GOOD, 0);
@@ -337,7 +345,7 @@ static void mode_of_many_transports(void)
         put16(arms_head + 6, 1);
         put16(arms_head + SMC_HEAD_FREE, 1);
         smc_reply reply = smc_mode_sense(arms_head, SMC_HEAD_SIZE, arms, (count + 1) * SMC_ELEMENT_SIZE, tags, 3 * SMC_TAG_SIZE,
-                                         blank, SMC_TAG_SIZE, generations, 3, NULL, 0, 1, block, 6, NULL, 0, answer, 512);
+                                         blank, SMC_TAG_SIZE, generations, 3, NULL, 0, search, SMC_SEARCH_SIZE, 1, block, 6, NULL, 0, answer, 512);
         ended("mode, many transports", reply, rows[i].status, rows[i].count);
         expect(arms_head[SMC_HOST_AT(1)] == (rows[i].status == SMC_GOOD ? 0 : 5), "mode, many transports", "another sense");
         if (rows[i].page == 0x1E && rows[i].count > 0)
@@ -520,7 +528,8 @@ static void any_free_arm(void)
     static const uint8_t ranges[16] = {0, 1, 0, 2, 0x10, 0, 0, 2}, wrong[12] = {0xA5, 0, 0, 0, 0x10, 0, 0x10, 2};
     static const smc_tables two_arms = {
         .head = arms_head, .head_len = sizeof arms_head, .elements = arms, .elements_len = sizeof arms, .tags = tags_room + GUARD, .tags_len = 3 * SMC_TAG_SIZE,
-        .blank = blank_room + GUARD, .blank_len = SMC_TAG_SIZE, .generations = generations_room + GUARD, .generations_len = 3};
+        .blank = blank_room + GUARD, .blank_len = SMC_TAG_SIZE, .generations = generations_room + GUARD, .generations_len = 3,
+        .search = search_room + GUARD, .search_len = SMC_SEARCH_SIZE};
     /* The holders of the arms, the arm that host 1 names, and the status. */
     static const struct {
         uint8_t one, two, named, status;
@@ -593,6 +602,179 @@ static void events(void)
     expect(head[21] == 0x29, "export", "attention of the reset overwritten");
 }
 
+/* ---- Document 02, Eight. Volumes 1, 2 and 3 are FILM0001 at 1000h, FILM0002 at 1002h and SOUND001 in the drive; their sequence numbers are 1, 2, 300h. */
+
+static void labelled_library(void)
+{
+    static const char *const names[] = {"FILM0001", "FILM0002", "SOUND001"};
+    static const unsigned numbers[] = {1, 2, 0x0300};
+    small_library();
+    for (int volume = 0; volume < 3; volume++) {
+        uint8_t *label = tags + volume * SMC_TAG_SIZE;
+        memset(label, ' ', 32);
+        memcpy(label, names[volume], 8);
+        put16(label + 32, 0);
+        put16(label + SMC_LABEL_SEQUENCE, numbers[volume]);
+    }
+    put16(elements + 2 * SMC_ELEMENT_SIZE, 3);
+}
+
+static uint8_t look_for[12] = {0xB6, 0, 0, 0, 0, 1, 0, 0, 0, 40}, tag_list[41];
+static const uint8_t where[12] = {0xB5, 0, 0, 0, 0xFF, 0xFF, 0, 0xFF, 0xFF};
+
+static void set_list(const char *template, unsigned least, unsigned greatest)
+{
+    memset(tag_list, 0, sizeof tag_list);
+    memset(tag_list, ' ', SMC_TEMPLATE_SIZE);
+    memcpy(tag_list, template, strlen(template));
+    put16(tag_list + SMC_TAG_LIST_LEAST, least);
+    put16(tag_list + SMC_TAG_LIST_GREATEST, greatest);
+}
+
+static smc_reply look(uint32_t host, uint8_t type, unsigned start, uint8_t action, size_t length)
+{
+    look_for[1] = type;
+    put16(look_for + 2, start);
+    look_for[5] = action;
+    put16(look_for + 8, (unsigned)length);
+    remember();
+    return smc_send_volume_tag(TABLES, host, look_for, 12, tag_list, length, NULL, 0);
+}
+
+static void search_is(const char *call, int type, int action, unsigned least, unsigned greatest, unsigned next)
+{
+    const uint8_t *s = search;
+    expect(!memcmp(s, tag_list, SMC_TEMPLATE_SIZE), call, "another template");
+    expect(s[32] == type && s[33] == action && s[34] * 256u + s[35] == least && s[36] * 256u + s[37] == greatest, call, "another type, action or range");
+    expect(s[38] * 65536u + s[39] * 256u + s[40] == next, call, "another next address");
+}
+
+/* An answer without tags has these bytes at its front, and so many of them are returned. */
+static void found_is(const char *call, const uint8_t *block, uint32_t count, const uint8_t *front, size_t length)
+{
+    ended(call, send(smc_request_volume_element_address, 1, block, 12), SMC_GOOD, count);
+    expect(!memcmp(answer, front, length), call, "another answer");
+}
+
+static void searches(void)
+{
+    static const uint8_t both[56] = {0x10, 0x00, 0, 2, 1, 0, 0, 0x28, 2, 0, 0, 16, 0, 0, 0, 32, 0x10, 0x00, 0x09, [32] = 0x10, 0x02, 0x09};
+    static const uint8_t none[8] = {0}, no_more[8] = {0, 0, 0, 0, 1}, sounds[8] = {0x01, 0x00, 0, 1, 5, 0, 0, 0x18};
+    static const uint8_t header[12] = {0xB5, 0, 0, 0, 0xFF, 0xFF, 0, 0, 8}, one[12] = {0xB5, 0, 0, 0, 0xFF, 0xFF, 0, 0, 47};
+    static const uint8_t second[8] = {0x10, 0x02, 0, 1, 1, 0, 0, 0x18}, tagged[12] = {0xB5, 0x10, 0, 0, 0xFF, 0xFF, 0, 0, 68};
+    labelled_library();
+    found_is("no search", where, 8, none, 8);
+    set_list("FILM*", 0, 0xFFFF);
+    ended("a search", look(1, 0, 0, 1, 40), SMC_GOOD, 0);
+    search_is("a search", 0, 1, 0, 0xFFFF, 0);
+    found_is("the header", header, 8, both, 8);
+    search_is("the header", 0, 1, 0, 0xFFFF, 0);
+    found_is("one of two", one, 32, both, 32);
+    search_is("one of two", 0, 1, 0, 0xFFFF, 0x1001);
+    found_is("the second", where, 32, second, 8);
+    search_is("the second", 0, 1, 0, 0xFFFF, 0x1003);
+    found_is("no more", where, 8, no_more, 8);
+    search_is("no more", 0, 1, 0, 0xFFFF, 0x1003);
+    ended("the same again", look(1, 0, 0, 1, 40), SMC_GOOD, 0);
+    found_is("both", where, 48, both, 48);
+    set_list("?????0?1*", 7, 3);
+    ended("wild cards", look(2, 4, 0x0100, 5, 40), SMC_GOOD, 0);
+    search_is("wild cards", 4, 5, 7, 3, 0x0100);
+    ended("with tags", send(smc_command, 1, tagged, 12), SMC_GOOD, 68);
+    expect(!memcmp(answer, (uint8_t[]){0x01, 0x00, 0, 1, 5, 0, 0, 60, 4, 0x80, 0, 52, 0, 0, 0, 52, 0x01, 0x00, 0x09}, 19)
+               && !memcmp(answer + 28, tags + 2 * SMC_TAG_SIZE, SMC_TAG_SIZE), "with tags", "another answer");
+    ended("wild cards again", look(2, 4, 0x0100, 5, 40), SMC_GOOD, 0);
+    remember();
+    refused("no room", smc_request_volume_element_address(TABLES, 1, where, 12, NULL, 0, answer, 31), SMC_ANSWER_TOO_SHORT);
+    found_is("with room", where, 32, sounds, 8);
+    remember();
+    ended("reset", smc_reset(TABLES), SMC_GOOD, 0);
+    for (int i = 0; i < SMC_SEARCH_SIZE; i++)
+        expect(search[i] == 0, "reset", "a byte of the search is left");
+}
+
+/* Sequence numbers 1, 2 and 300h: which of the three a range finds. */
+static void sequence_numbers(void)
+{
+    static const struct {
+        unsigned least, greatest;
+        uint8_t action, found;
+    } rows[] = {{0, 0xFFFF, 1, 3}, {1, 1, 1, 1}, {2, 0x0300, 1, 2}, {3, 0x02FF, 1, 0}, {0x0300, 0x0300, 1, 1}, {2, 1, 1, 0}, {2, 1, 5, 3}, {0, 0, 5, 3}};
+    for (size_t i = 0; i < sizeof rows / sizeof *rows; i++) {
+        labelled_library();
+        set_list("*", rows[i].least, rows[i].greatest);
+        ended("sequence numbers", look(1, 0, 0, rows[i].action, 40), SMC_GOOD, 0);
+        remember();
+        smc_reply told = smc_request_volume_element_address(TABLES, 1, where, 12, NULL, 0, answer, 512);
+        always("sequence numbers", told);
+        expect(told.number == 0 && answer[3] == rows[i].found && answer[4] == rows[i].action, "sequence numbers", "another number of elements, or another action");
+    }
+}
+
+/* What is refused keeps the search before. */
+static void refused_searches(void)
+{
+    static const uint8_t wrong[][12] = {
+        {0xB6, 0, 0, 0, 0, 0, 0, 0, 0, 40}, {0xB6, 0, 0, 0, 0, 2, 0, 0, 0, 40}, {0xB6, 0, 0, 0, 0, 0x11, 0, 0, 0, 40}, {0xB6, 5, 0, 0, 0, 1, 0, 0, 0, 40},
+        {0xB6, 0x10, 0, 0, 0, 1, 0, 0, 0, 40}, {0xB6, 0, 0, 0, 1, 1, 0, 0, 0, 40}, {0xB6, 0, 0, 0, 0, 1, 0, 0, 0, 40, 0, 1}};
+    static const uint8_t byte_9[12] = {0xB5, 0, 0, 0, 0xFF, 0xFF, 0, 0xFF, 0xFF, 1};
+    static const int reserved[] = {32, 33, 36, 37};
+    labelled_library();
+    set_list("FILM*", 0, 0xFFFF);
+    ended("a search", look(1, 2, 0x1000, 1, 40), SMC_GOOD, 0);
+    for (size_t i = 0; i < sizeof wrong / sizeof *wrong; i++) {
+        remember();
+        ended("a wrong field", smc_send_volume_tag(TABLES, 1, wrong[i], 12, tag_list, 40, NULL, 0), SMC_CHECK_CONDITION, 0);
+        sense_is("a wrong field", 1, 5, 0x24, 0x00);
+        search_is("a wrong field", 2, 1, 0, 0xFFFF, 0x1000);
+    }
+    ended("39 bytes", look(1, 0, 0, 1, 39), SMC_CHECK_CONDITION, 0);
+    sense_is("39 bytes", 1, 5, 0x1A, 0x00);
+    ended("41 bytes", look(1, 0, 0, 1, 41), SMC_CHECK_CONDITION, 0);
+    sense_is("41 bytes", 1, 5, 0x1A, 0x00);
+    remember();
+    refused("41 for 40", smc_send_volume_tag(TABLES, 1, (uint8_t[12]){0xB6, 0, 0, 0, 0, 1, 0, 0, 0, 40}, 12, tag_list, 41, NULL, 0), SMC_PARAMETER_LENGTH);
+    for (size_t i = 0; i < sizeof reserved / sizeof *reserved; i++) {
+        tag_list[reserved[i]] = 1;
+        ended("a reserved byte", look(1, 0, 0, 1, 40), SMC_CHECK_CONDITION, 0);
+        sense_is("a reserved byte", 1, 5, 0x26, 0x00);
+        tag_list[reserved[i]] = 0;
+    }
+    ended("byte 9", send(smc_request_volume_element_address, 1, byte_9, 12), SMC_CHECK_CONDITION, 0);
+    sense_is("byte 9", 1, 5, 0x24, 0x00);
+    elements[6 * SMC_ELEMENT_SIZE + SMC_ELEMENT_HOLDER] = 2;
+    ended("another host holds a shelf", look(1, 0, 0, 1, 40), SMC_RESERVATION_CONFLICT, 0);
+    ended("another host holds a shelf", send(smc_request_volume_element_address, 1, where, 12), SMC_RESERVATION_CONFLICT, 0);
+    search_is("refused", 2, 1, 0, 0xFFFF, 0x1000);
+    ended("the host that holds it", look(2, 0, 0, 5, 40), SMC_GOOD, 0);
+    search_is("the host that holds it", 0, 5, 0, 0xFFFF, 0);
+}
+
+/* All zeros, or what a search could leave; else number 1. */
+static void wrong_searches(void)
+{
+    static const struct {
+        int at, value, action, sound;
+    } rows[] = {{33, 0, 0, 1}, {33, 1, 1, 1}, {33, 2, 2, 0}, {33, 5, 5, 1}, {33, 0x11, 0x11, 0}, {0, '*', 0, 0}, {40, 1, 0, 0},
+                {32, 4, 1, 1}, {32, 5, 1, 0}, {38, 1, 5, 1}, {38, 2, 5, 0}, {34, 0xFF, 1, 1}};
+    smc_tables other = lent;
+    for (size_t i = 0; i < sizeof rows / sizeof *rows; i++) {
+        small_library();
+        search[SMC_SEARCH_ACTION] = (uint8_t)rows[i].action;
+        search[rows[i].at] = (uint8_t)rows[i].value;
+        remember();
+        smc_reply told = smc_test_unit_ready(TABLES, 1, ready, 6, NULL, 0, NULL, 0);
+        expect(told.number == (rows[i].sound ? 0 : SMC_TABLES_NOT_SOUND) && untouched(), "a search that could be", "another number, or a byte changed");
+    }
+    small_library();
+    remember();
+    other.search_len = SMC_SEARCH_SIZE - 1;
+    refused("a search of 40 bytes", smc_test_unit_ready(SMC_LEND(&other), 1, ready, 6, NULL, 0, NULL, 0), SMC_TABLES_NOT_SOUND);
+    other.search = NULL;
+    other.search_len = 0;
+    refused("no search lent", smc_reset(SMC_LEND(&other)), SMC_TABLES_NOT_SOUND);
+}
+
 /* ---- Document 02, Five. */
 
 static smc_replayed replay(const char *text, size_t length, uint32_t expected, uint32_t budget)
@@ -624,6 +806,9 @@ static void replayed(const char *call, smc_replayed told, uint32_t number, uint3
 #define SHELVED "10\t1\tA50000000010100100000000\t\n"
 #define AGAIN "11\t0\t01\t00100003\n"
 #define LOADED "12\t1\tA50000001001010000000000\t\n"
+
+/* A list of 40 bytes: FILM*, 27 blanks, sequence numbers 0 to FFFFh. */
+#define FILMS "46494C4D2A" "202020202020202020202020202020202020202020202020202020" "000000000000FFFF"
 
 static void replays(void)
 {
@@ -660,6 +845,15 @@ static void replays(void)
     REPLAY("a cartridge not taken", "7\t1\tA50000001000010000000000\t\n", 7, 9, 0, 1, 30, 8);
     sense_is("a cartridge not taken", 1, 5, 0x30, 0x12);
     element_is("a cartridge not taken", 3, 1, 0, 0, 0, 0);
+    labelled_library();
+    set_list("FILM*", 0, 0xFFFF);
+    ended("a search", look(1, 0, 0, 1, 40), SMC_GOOD, 0);
+    REPLAY("a search goes on", "7\t1\tB5000000FFFF000020000000\t\n", 7, 9, 0, 1, 30, 8);
+    search_is("a search goes on", 0, 1, 0, 0xFFFF, 0x1001);
+    REPLAY("a search begins", "8\t3\tB60000000005000000280000\t" FILMS "\n", 8, 9, 0, 1, 110, 9);
+    search_is("a search begins", 0, 5, 0, 0xFFFF, 0);
+    REPLAY("a search ends", "9\t0\t03\t\n", 9, 9, 0, 1, 8, 10);
+    expect(search[SMC_SEARCH_ACTION] == 0 && search[0] == 0, "a search ends", "it is left");
     small_library();
     REPLAY("up to the bad line", bad, 8, 3, 0, 3, 65, 11);
     REPLAY("no budget", "x", 7, 0, 0, 0, 0, 7);
@@ -767,6 +961,10 @@ int main(void)
     order_of_cartridges();
     unfit_tables();
     any_free_arm();
+    searches();
+    sequence_numbers();
+    refused_searches();
+    wrong_searches();
     reservations();
     events();
     replays();

@@ -13,7 +13,7 @@ const USUAL: &str = "target/staticlib/libchanger.a";
 const CRATE: &str = "changer";
 const BUILD_IT: &str = "run `bin/library` in the repository";
 
-const ENTRIES: [&str; 14] = [
+const ENTRIES: [&str; 16] = [
     "smc_command",
     "smc_test_unit_ready",
     "smc_request_sense",
@@ -24,6 +24,8 @@ const ENTRIES: [&str; 14] = [
     "smc_exchange_medium",
     "smc_read_element_status",
     "smc_mode_sense",
+    "smc_send_volume_tag",
+    "smc_request_volume_element_address",
     "smc_import",
     "smc_export",
     "smc_reset",

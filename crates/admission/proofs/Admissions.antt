@@ -8,47 +8,44 @@ use mathlib.Core.List.{List}
 use lib.Dec.{eqb}
 use borrow.Author.Tests.{eqb-true}
 use Rattle.rules.specs.Choice.{when, differ}
-use Rattle.rules.specs.Tables.{Tables, attention, unit}
-use Rattle.rules.specs.Operation.{Operation, TestUnitReady, RequestSense, Reserve, Release, PreventAllow, MoveMedium, ExchangeMedium, ReadElementStatus, ModeSense, Unknown}
-use Rattle.rules.specs.Order.{Verdict, other, conflict, refused, InvalidField, afterAttention, afterUnit, guarded}
+use Rattle.rules.specs.Tables.{Tables, attention}
+use Rattle.rules.specs.Operation.{Operation, TestUnitReady, RequestSense, Reserve, Release, PreventAllow, MoveMedium, ExchangeMedium, ReadElementStatus, ModeSense, SendVolumeTag, RequestVolumeElementAddress, Unknown}
+use Rattle.rules.specs.Order.{Verdict, conflict, refused, InvalidField, afterAttention, afterUnit, guarded}
+use Rattle.rules.specs.Search.{othersHold as holdsAny, afterOthers, alone}
 use Rattle.rules.specs.Form.{fault, formed}
 use Rattle.rules.specs.Command.{admitted}
 use Rattle.rules.proofs.Ladder.{differ-true}
+use Rattle.order.specs.Holders.{anyOther}
 use Rattle.operation.specs.declared.Operation.{Operation as Declared}
 use Rattle.operation.specs.Meaning.{meaning}
 use Rattle.admission.specs.declared.Admission.{Admission}
 use Rattle.admission.specs.declared.Admission.the-variants.{Pending, Held, Faulty, Open}
-use Rattle.admission.specs.Admitting.{meetsAttention, meetsUnit, pending, held, admission, onAdmission}
+use Rattle.admission.specs.Admitting.{meetsAttention, reachOf, othersHold, heldIn, pending, held, admission, onAdmission}
 
 module _ (t : Tables) (h : ℕ) (v : Verdict) where
-  -- steps 2 and 3 by the tests of the code
-  attention-by : afterAttention t h v ≡ when (differ (attention (t .head) h) 0) (afterAttention t h v) v
+  -- step 2 by the test of the code, whatever step 3 is
+  attention-by : (later : Verdict) → afterAttention t h later ≡ when (differ (attention (t .head) h) 0) (afterAttention t h v) later
   unfolding afterAttention differ when
-  attention-by = go (eqb (attention (t .head) h) 0) _
+  attention-by later = go (eqb (attention (t .head) h) 0) _
     where
-      go : (b : Bool) (told : Verdict) → when b v told ≡ when (not b) (when b v told) v
+      go : (b : Bool) (told : Verdict) → when b later told ≡ when (not b) (when b v told) later
       go true told = refl
       go false told = refl
 
-  guarded-by : guarded t h v ≡ when (differ (attention (t .head) h) 0) (afterAttention t h v) (when (other h (unit (t .head))) (conflict h) v)
-  unfolding guarded afterUnit afterAttention differ when
-  guarded-by = go (eqb (attention (t .head) h) 0) _ _
-    where
-      go : (b : Bool) (later told : Verdict) → when b later told ≡ when (not b) (when b v told) later
-      go true later told = refl
-      go false later told = refl
-
-  admitted-by : (op : Operation) → admitted op t h v ≡ when (pending op (t .head) h) (afterAttention t h v) (when (held op (t .head) h) (conflict h) v)
-  unfolding admitted pending held meetsAttention meetsUnit when
-  admitted-by TestUnitReady = guarded-by
+  -- steps 2 and 3
+  admitted-by : (op : Operation) → admitted op t h v ≡ when (pending op (t .head) h) (afterAttention t h v) (when (held op (t .head) (t .elements) h) (conflict h) v)
+  unfolding admitted guarded afterUnit alone afterOthers holdsAny anyOther pending held heldIn othersHold meetsAttention reachOf when
+  admitted-by TestUnitReady = attention-by _
   admitted-by RequestSense = refl
-  admitted-by Reserve = guarded-by
-  admitted-by Release = attention-by
-  admitted-by PreventAllow = guarded-by
-  admitted-by MoveMedium = guarded-by
-  admitted-by ExchangeMedium = guarded-by
-  admitted-by ReadElementStatus = guarded-by
-  admitted-by ModeSense = guarded-by
+  admitted-by Reserve = attention-by _
+  admitted-by Release = attention-by _
+  admitted-by PreventAllow = attention-by _
+  admitted-by MoveMedium = attention-by _
+  admitted-by ExchangeMedium = attention-by _
+  admitted-by ReadElementStatus = attention-by _
+  admitted-by ModeSense = attention-by _
+  admitted-by SendVolumeTag = attention-by _
+  admitted-by RequestVolumeElementAddress = attention-by _
   admitted-by Unknown = refl
 
 -- attention is looked at where it is met
@@ -67,7 +64,7 @@ alike t h v w n = rw (borrow.Author.Tests.ne-eqb (attention (t .head) h) 0 n) re
 
 -- ---- for callers: the answer g
 
-module _ (op : Declared) (t : Tables) (h : ℕ) (block list : List ℕ) (g : Admission) (is : g ≡ admission op (t .head) h block list) where
+module _ (op : Declared) (t : Tables) (h : ℕ) (block list : List ℕ) (g : Admission) (is : g ≡ admission op (t .head) (t .elements) h block list) where
   pub is-pending : g ≡ Pending → attention (t .head) h ≢ 0
   unfolding admission when
   is-pending p = go (pending (meaning op) (t .head) h) refl
@@ -82,12 +79,12 @@ module _ (op : Declared) (t : Tables) (h : ℕ) (block list : List ℕ) (g : Adm
 
       go : (b : Bool) → pending (meaning op) (t .head) h ≡ b → attention (t .head) h ≢ 0
       go true e = waits (meaning op) (t .head) h e
-      go false e = λ _. never (held (meaning op) (t .head) h) (eqb at 0) at (sym p ∙ is ∙ rw e refl)
+      go false e = λ _. never (held (meaning op) (t .head) (t .elements) h) (eqb at 0) at (sym p ∙ is ∙ rw e refl)
 
   -- what is let through has no fault
   pub is-open : g ≡ Open → fault (meaning op) (t .head) block list ≡ 0
   unfolding admission when
-  is-open p = go (pending (meaning op) (t .head) h) (held (meaning op) (t .head) h) (eqb at 0) refl (sym p ∙ is)
+  is-open p = go (pending (meaning op) (t .head) h) (held (meaning op) (t .head) (t .elements) h) (eqb at 0) refl (sym p ∙ is)
     where
       at : ℕ
       at = fault (meaning op) (t .head) block list
@@ -100,7 +97,7 @@ module _ (op : Declared) (t : Tables) (h : ℕ) (block list : List ℕ) (g : Adm
 
   pub admission-is : (rest : Verdict) → admitted (meaning op) t h (formed (meaning op) t h block list rest) ≡ onAdmission t h g rest
   unfolding admission onAdmission formed when
-  admission-is rest = admitted-by t h _ (meaning op) ∙ rw is (go (pending (meaning op) (t .head) h) refl (held (meaning op) (t .head) h) (eqb (fault (meaning op) (t .head) block list) 0))
+  admission-is rest = admitted-by t h _ (meaning op) ∙ rw is (go (pending (meaning op) (t .head) h) refl (held (meaning op) (t .head) (t .elements) h) (eqb (fault (meaning op) (t .head) block list) 0))
     where
       at : ℕ
       at = fault (meaning op) (t .head) block list

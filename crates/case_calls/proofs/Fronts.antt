@@ -32,8 +32,8 @@ module _ (xs : List ℕ) (n k : ℕ) (e : k ≡ min n (length xs)) (filled : Lis
   as-much ys l = same-len-mid 0 (k - 0) (putMid 0 (k - 0) xs filled) ys l ∙ same-len-mid 0 (k - 0) xs filled as-long
 
 -- the outcome of a call on what was lent is that of the call on what was meant
-pub carried : (w f s host : ℕ) (r : Reply) (block head head′ elements elements′ answer answer′ h h′ es es′ ps ps′ buffer buffer′ : List ℕ) (rest rest′ : Rest)
-    → head′ ≡ head → elements′ ≡ elements → answer′ ≡ answer → h ≡ h′ → es ≡ es′ → rest ≡ rest′ → ps ≡ ps′ → buffer ≡ buffer′
-    → ended r (lent head elements rest) answer ≡ called w f s (lent h es rest) host block ps buffer
-    → ended r (lent head′ elements′ rest′) answer′ ≡ called w f s (lent h′ es′ rest′) host block ps′ buffer′
-carried w f s host r block head head′ elements elements′ answer answer′ h h′ es es′ ps ps′ buffer buffer′ rest rest′ a b c d e i j k l = cc
+pub carried : (w f s host : ℕ) (r : Reply) (block head head′ elements elements′ answer answer′ h h′ es es′ ps ps′ buffer buffer′ : List ℕ) (left left′ rest rest′ : Rest)
+    → head′ ≡ head → elements′ ≡ elements → answer′ ≡ answer → h ≡ h′ → es ≡ es′ → left ≡ left′ → rest ≡ rest′ → ps ≡ ps′ → buffer ≡ buffer′
+    → ended r (lent head elements left) answer ≡ called w f s (lent h es rest) host block ps buffer
+    → ended r (lent head′ elements′ left′) answer′ ≡ called w f s (lent h′ es′ rest′) host block ps′ buffer′
+carried w f s host r block head head′ elements elements′ answer answer′ h h′ es es′ ps ps′ buffer buffer′ left left′ rest rest′ a b c d e i j k l m = cc

@@ -9,6 +9,6 @@ use Rattle.order.specs.Ending.{ended}
 use Rattle.case_entering.specs.Called.{beside}
 
 -- an event is lent no answer buffer
-pub event : (r : Reply) (t : Tables) (buffer : List ℕ) (o : Outcome) → ended r t [] ≡ o → ended r t buffer ≡ beside buffer o
+pub beside-it : (r : Reply) (t : Tables) (buffer : List ℕ) (o : Outcome) → ended r t [] ≡ o → ended r t buffer ≡ beside buffer o
 unfolding beside
-event r t buffer o e = ap (beside buffer) e
+beside-it r t buffer o e = ap (beside buffer) e

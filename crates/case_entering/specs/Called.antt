@@ -21,10 +21,14 @@ beside buffer o =
       buffer = buffer;
     }
 
+-- the event that a line names
+unfoldable pub event : ℕ → ℕ → ℕ → Tables → Outcome
+event w first second t =
+    when (eqb w IMPORT) (import t first second)
+    (when (eqb w EXPORT) (export t first)
+    (reset t))
+
 -- the call that a line names
 unfoldable pub called : ℕ → ℕ → ℕ → Tables → ℕ → List ℕ → List ℕ → List ℕ → Outcome
 called w first second t host block parameters buffer =
-    when (eqb w COMMAND) (command t host block parameters buffer)
-    (when (eqb w IMPORT) (beside buffer (import t first second))
-    (when (eqb w EXPORT) (beside buffer (export t first))
-    (beside buffer (reset t))))
+    when (eqb w COMMAND) (command t host block parameters buffer) (beside buffer (event w first second t))

@@ -2,9 +2,53 @@
 use case_script::word;
 use order::Reply;
 ghost use mathlib.Core.Path.{_≡_};
+ghost use mathlib.Core.List.{[]};
 ghost use Rattle.rules.specs.Tables.{lent, others};
 ghost use Rattle.order.specs.Ending.{ended};
-ghost use Rattle.case_entering.specs.Called.{called};
+ghost use Rattle.case_entering.specs.Called.{event as eventOf, called};
+
+// The event that a line names, on the tables as they lie.
+fn event<'a>(
+    what: u8,
+    first: u32,
+    second: u32,
+    head: &mut [u8],
+    elements: &mut [u8],
+    tags: &'a [u8],
+    blank: &'a [u8],
+    generations: &'a [u8],
+    masks: &'a [u8],
+    search: &mut [u8],
+) -> Reply
+    ensures { λ r. ⌜ ended r (lent (now (head .exit)) (now (elements .exit)) (others (now (tags .entry)) (now (blank .entry)) (now (generations .entry)) (now (masks .entry)) (now (search .exit)))) [] ≡ eventOf what first second (lent (now (head .entry)) (now (elements .entry)) (others (now (tags .entry)) (now (blank .entry)) (now (generations .entry)) (now (masks .entry)) (now (search .entry)))) ⌝ }
+{
+    if what == word::IMPORT {
+        return changer::smc_import(
+            head,
+            elements,
+            tags,
+            blank,
+            generations,
+            masks,
+            search,
+            first,
+            second,
+        );
+    }
+    if what == word::EXPORT {
+        return changer::smc_export(
+            head,
+            elements,
+            tags,
+            blank,
+            generations,
+            masks,
+            search,
+            first,
+        );
+    }
+    changer::smc_reset(head, elements, tags, blank, generations, masks, search)
+}
 
 // The call of the core that a line names, on the tables as they lie.
 pub fn enter<'a>(
@@ -18,11 +62,12 @@ pub fn enter<'a>(
     blank: &'a [u8],
     generations: &'a [u8],
     masks: &'a [u8],
+    search: &mut [u8],
     block: &[u8],
     parameters: &[u8],
     answer: &mut [u8],
 ) -> Reply
-    ensures { λ r. ⌜ ended r (lent (now (head .exit)) (now (elements .exit)) (others (now (tags .entry)) (now (blank .entry)) (now (generations .entry)) (now (masks .entry)))) (now (answer .exit)) ≡ called what first second (lent (now (head .entry)) (now (elements .entry)) (others (now (tags .entry)) (now (blank .entry)) (now (generations .entry)) (now (masks .entry)))) host (now (block .entry)) (now (parameters .entry)) (now (answer .entry)) ⌝ }
+    ensures { λ r. ⌜ ended r (lent (now (head .exit)) (now (elements .exit)) (others (now (tags .entry)) (now (blank .entry)) (now (generations .entry)) (now (masks .entry)) (now (search .exit)))) (now (answer .exit)) ≡ called what first second (lent (now (head .entry)) (now (elements .entry)) (others (now (tags .entry)) (now (blank .entry)) (now (generations .entry)) (now (masks .entry)) (now (search .entry)))) host (now (block .entry)) (now (parameters .entry)) (now (answer .entry)) ⌝ }
 {
     if what == word::COMMAND {
         return changer::smc_command(
@@ -32,26 +77,23 @@ pub fn enter<'a>(
             blank,
             generations,
             masks,
+            search,
             host,
             block,
             parameters,
             answer,
         );
     }
-    if what == word::IMPORT {
-        return changer::smc_import(
-            head,
-            elements,
-            tags,
-            blank,
-            generations,
-            masks,
-            first,
-            second,
-        );
-    }
-    if what == word::EXPORT {
-        return changer::smc_export(head, elements, tags, blank, generations, masks, first);
-    }
-    changer::smc_reset(head, elements, tags, blank, generations, masks)
+    event(
+        what,
+        first,
+        second,
+        head,
+        elements,
+        tags,
+        blank,
+        generations,
+        masks,
+        search,
+    )
 }

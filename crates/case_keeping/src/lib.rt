@@ -71,14 +71,15 @@ pub fn after_replay(state: State, from: usize, ended: Replayed) -> State {
     s
 }
 
-// The tables as they are before a call, for `kept`.
-pub fn keep(room: &mut [u8], head: &[u8], elements: &[u8]) {
+// The tables that a call writes as they are before it, for `kept`.
+pub fn keep(room: &mut [u8], head: &[u8], elements: &[u8], search: &[u8]) {
     case_rooms::write(room, parts::KEPT_HEAD_AT, head);
     case_rooms::write(room, parts::KEPT_ELEMENTS_AT, elements);
+    case_rooms::write(room, parts::KEPT_SEARCH_AT, search);
 }
 
-// Head and elements as a call left them.
-pub fn take_back(state: State, room: &mut [u8], head: &[u8], elements: &[u8]) {
+// Head, elements and search as a call left them.
+pub fn take_back(state: State, room: &mut [u8], head: &[u8], elements: &[u8], search: &[u8]) {
     case_rooms::write(
         room,
         parts::HEAD_AT,
@@ -88,6 +89,11 @@ pub fn take_back(state: State, room: &mut [u8], head: &[u8], elements: &[u8]) {
         room,
         parts::ELEMENTS_AT,
         case_rooms::part(elements, 0, case_rooms::length_of(state, parts::ELEMENTS)),
+    );
+    case_rooms::write(
+        room,
+        parts::SEARCH_AT,
+        case_rooms::part(search, 0, case_rooms::length_of(state, parts::SEARCH)),
     );
 }
 

@@ -15,8 +15,8 @@ pub log-is : (room : List ℕ) (n at : ℕ) (whole log : List ℕ) → whole ≡
 log-is room n at whole log w e = e ∙ rest-is whole at ∙ ap (drop at) w
 
 -- the end of a replay on what was lent is that of the replay on what was meant
-pub carried : (r : Replayed) (e b : ℕ) (head head′ elements elements′ h h′ es es′ log log′ : List ℕ) (rest rest′ : Rest)
-    → head′ ≡ head → elements′ ≡ elements → h ≡ h′ → es ≡ es′ → rest ≡ rest′ → log ≡ log′
-    → ended r (lent head elements rest) ≡ replay (lent h es rest) log e b
-    → ended r (lent head′ elements′ rest′) ≡ replay (lent h′ es′ rest′) log′ e b
-carried r e b head head′ elements elements′ h h′ es es′ log log′ rest rest′ f g i j k l m = cc
+pub carried : (r : Replayed) (e b : ℕ) (head head′ elements elements′ h h′ es es′ log log′ : List ℕ) (left left′ rest rest′ : Rest)
+    → head′ ≡ head → elements′ ≡ elements → h ≡ h′ → es ≡ es′ → left ≡ left′ → rest ≡ rest′ → log ≡ log′
+    → ended r (lent head elements left) ≡ replay (lent h es rest) log e b
+    → ended r (lent head′ elements′ left′) ≡ replay (lent h′ es′ rest′) log′ e b
+carried r e b head head′ elements elements′ h h′ es es′ log log′ left left′ rest rest′ f g i j k l m n = cc

@@ -20,14 +20,16 @@ fn made(
     head: &mut [u8],
     elements: &mut [u8],
     room: &[u8],
+    search: &mut [u8],
 ) -> Replayed
-    ensures { λ r. ⌜ ended r (lying state (now (head .exit)) (now (elements .exit)) (now (room .entry)))
-        ≡ replayOf (lying state (now (head .entry)) (now (elements .entry)) (now (room .entry))) (logFrom state at (now (room .entry))) expected budget ⌝ }
+    ensures { λ r. ⌜ ended r (lying state (now (head .exit)) (now (elements .exit)) (now (room .entry)) (now (search .exit)))
+        ≡ replayOf (lying state (now (head .entry)) (now (elements .entry)) (now (room .entry)) (now (search .entry))) (logFrom state at (now (room .entry))) expected budget ⌝ }
 {
     let sizes = state.sizes;
     let log = state.log;
     let h = case_rooms::least(sizes[parts::HEAD], head.len());
     let e = case_rooms::least(sizes[parts::ELEMENTS], elements.len());
+    let s = case_rooms::least(sizes[parts::SEARCH], search.len());
     let whole = case_rooms::part(room, parts::LOG_AT, log.length);
     changer::smc_replay(
         &mut head[0..h],
@@ -36,6 +38,7 @@ fn made(
         case_rooms::part(room, parts::BLANK_AT, sizes[parts::BLANK]),
         case_rooms::part(room, parts::GENERATIONS_AT, sizes[parts::GENERATIONS]),
         case_rooms::part(room, parts::MASKS_AT, sizes[parts::MASKS]),
+        &mut search[0..s],
         case_rooms::part(whole, at, whole.len()),
         expected,
         budget,
@@ -54,10 +57,11 @@ fn noted(r: Replayed) -> case_rooms::Replayed
     }
 }
 
-// The core changes head and elements while it reads the rest, so that these two are lent to it as copies.
+// The core changes head, elements and search while it reads the rest, so that these three are lent to it as copies.
 fn run(state: State, at: usize, expected: u32, budget: u32, room: &mut [u8]) -> Effect {
     let mut head = [0u8; parts::HEAD_MOST];
     let mut elements = [0u8; parts::ELEMENTS_MOST];
+    let mut search = [0u8; parts::SEARCH_MOST];
     case_rooms::write(
         &mut head,
         0,
@@ -68,9 +72,23 @@ fn run(state: State, at: usize, expected: u32, budget: u32, room: &mut [u8]) -> 
         0,
         case_rooms::part(room, parts::ELEMENTS_AT, parts::ELEMENTS_MOST),
     );
-    case_keeping::keep(room, &head, &elements);
-    let ended = made(state, at, expected, budget, &mut head, &mut elements, room);
-    case_keeping::take_back(state, room, &head, &elements);
+    case_rooms::write(
+        &mut search,
+        0,
+        case_rooms::part(room, parts::SEARCH_AT, parts::SEARCH_MOST),
+    );
+    case_keeping::keep(room, &head, &elements, &search);
+    let ended = made(
+        state,
+        at,
+        expected,
+        budget,
+        &mut head,
+        &mut elements,
+        room,
+        &mut search,
+    );
+    case_keeping::take_back(state, room, &head, &elements, &search);
     case_rooms::done(case_keeping::after_replay(state, at, noted(ended)))
 }
 

@@ -4,14 +4,15 @@ use mathlib.Core.List.{List}
 use lib.ListN.{take, drop}
 use Rattle.rules.specs.Tables.{Tables, lent, others}
 use Rattle.case_rooms.specs.declared.State.{State}
-use Rattle.case_rooms.specs.Parts.{part, lengthOf, HEAD, ELEMENTS, TAGS, BLANK, GENERATIONS, MASKS, tagsAt, blankAt, generationsAt, masksAt, logAt}
+use Rattle.case_rooms.specs.Parts.{part, lengthOf, HEAD, ELEMENTS, TAGS, BLANK, GENERATIONS, MASKS, SEARCH, tagsAt, blankAt, generationsAt, masksAt, logAt}
 
--- the tables of a case as they lie: head and elements at the front of the copies that a call changes, the others in the room
-abbrev pub lying : State → List ℕ → List ℕ → List ℕ → Tables
-lying s head elements room =
+-- the tables of a case as they lie: head, elements and search at the front of the copies that a call changes, the others in the room
+abbrev pub lying : State → List ℕ → List ℕ → List ℕ → List ℕ → Tables
+lying s head elements room search =
     lent (take (lengthOf (s .sizes) HEAD) head) (take (lengthOf (s .sizes) ELEMENTS) elements)
     (others (part room tagsAt (lengthOf (s .sizes) TAGS)) (part room blankAt (lengthOf (s .sizes) BLANK))
-    (part room generationsAt (lengthOf (s .sizes) GENERATIONS)) (part room masksAt (lengthOf (s .sizes) MASKS)))
+    (part room generationsAt (lengthOf (s .sizes) GENERATIONS)) (part room masksAt (lengthOf (s .sizes) MASKS))
+    (take (lengthOf (s .sizes) SEARCH) search))
 
 -- the log of a case, from a place of it on
 abbrev pub logFrom : State → ℕ → List ℕ → List ℕ

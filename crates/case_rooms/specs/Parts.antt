@@ -2,7 +2,7 @@
 use Prim.Native.Nat.{ℕ, _+_, _*_}
 use mathlib.Core.List.{List}
 use lib.ListN.{getD, take, drop}
-use Rattle.rules.specs.Tables.{headSize, elementSize, tagSize}
+use Rattle.rules.specs.Tables.{headSize, elementSize, tagSize, searchSize}
 
 -- the n bytes from a place on, as many of them as there are
 unfoldable pub part : List ℕ → ℕ → ℕ → List ℕ
@@ -31,6 +31,9 @@ GENERATIONS = 4
 abbrev pub MASKS : ℕ
 MASKS = 5
 
+abbrev pub SEARCH : ℕ
+SEARCH = 6
+
 -- where what a call reads begins in the room: each part behind the one before it
 abbrev pub elementsAt : ℕ
 elementsAt = headSize + 6
@@ -47,8 +50,11 @@ generationsAt = blankAt + (tagSize + 28)
 abbrev pub masksAt : ℕ
 masksAt = generationsAt + 517
 
+abbrev pub searchAt : ℕ
+searchAt = masksAt + 544
+
 abbrev pub parametersAt : ℕ
-parametersAt = masksAt + 544
+parametersAt = searchAt + (searchSize + 23)
 
 abbrev pub logAt : ℕ
 logAt = parametersAt + 1024

@@ -1,4 +1,4 @@
-// The room of a case: its tables, the parameters, the log, the tables as they were before the last call, and the answer, one behind the other.
+// The room of a case: its tables, the parameters, the log, the tables that a call writes as they were before the last, and the answer, one behind the other.
 ghost use Prim.Native.Nat.{_≤_};
 ghost use Rattle.case_rooms.specs.Parts.{parametersAt};
 
@@ -15,7 +15,9 @@ pub const GENERATIONS: usize = 4;
 
 pub const MASKS: usize = 5;
 
-pub const TABLES: usize = 6;
+pub const SEARCH: usize = 6;
+
+pub const TABLES: usize = 7;
 
 // How many bytes each part may have: a table somewhat more than a sound one, so that refusals of large tables can be shown.
 pub const HEAD_MOST: usize = layout::HEAD_SIZE + 6;
@@ -29,6 +31,8 @@ pub const BLANK_MOST: usize = layout::TAG_SIZE + 28;
 pub const GENERATIONS_MOST: usize = layout::MOST_VOLUMES + 5;
 
 pub const MASKS_MOST: usize = layout::MOST_ELEMENTS + 32;
+
+pub const SEARCH_MOST: usize = layout::SEARCH_SIZE + 23;
 
 pub const PARAMETERS_MOST: usize = 1024;
 
@@ -49,7 +53,9 @@ pub const GENERATIONS_AT: usize = BLANK_AT + BLANK_MOST;
 
 pub const MASKS_AT: usize = GENERATIONS_AT + GENERATIONS_MOST;
 
-pub const PARAMETERS_AT: usize = MASKS_AT + MASKS_MOST;
+pub const SEARCH_AT: usize = MASKS_AT + MASKS_MOST;
+
+pub const PARAMETERS_AT: usize = SEARCH_AT + SEARCH_MOST;
 
 pub const LOG_AT: usize = PARAMETERS_AT + PARAMETERS_MOST;
 
@@ -57,7 +63,9 @@ pub const KEPT_HEAD_AT: usize = LOG_AT + LOG_MOST;
 
 pub const KEPT_ELEMENTS_AT: usize = KEPT_HEAD_AT + HEAD_MOST;
 
-pub const ANSWER_AT: usize = KEPT_ELEMENTS_AT + ELEMENTS_MOST;
+pub const KEPT_SEARCH_AT: usize = KEPT_ELEMENTS_AT + ELEMENTS_MOST;
+
+pub const ANSWER_AT: usize = KEPT_SEARCH_AT + SEARCH_MOST;
 
 pub const ROOM: usize = ANSWER_AT + ANSWER_MOST;
 
@@ -83,7 +91,10 @@ pub fn begin_of(table: usize) -> usize
     if table == GENERATIONS {
         return GENERATIONS_AT;
     }
-    MASKS_AT
+    if table == MASKS {
+        return MASKS_AT;
+    }
+    SEARCH_AT
 }
 
 // How many bytes it may have.
@@ -105,5 +116,8 @@ pub fn most_of(table: usize) -> usize
     if table == GENERATIONS {
         return GENERATIONS_MOST;
     }
-    MASKS_MOST
+    if table == MASKS {
+        return MASKS_MOST;
+    }
+    SEARCH_MOST
 }

@@ -36,28 +36,32 @@ tables-line : lineRead (letters "tables empty") [] ≡ says false 3 0 0 0 0 6 []
 unfolding opened
 tables-line = refl
 
-command-line : lineRead (letters "command A5 0 01 0a*2 # MOVE") (7 ∷ 7 ∷ 7 ∷ 7 ∷ 7 ∷ 7 ∷ []) ≡ says false 21 0 0 5 0 7 (0xA5 ∷ 0 ∷ 1 ∷ 10 ∷ 10 ∷ 7 ∷ [])
+command-line : lineRead (letters "command A5 0 01 0a*2 # MOVE") (7 ∷ 7 ∷ 7 ∷ 7 ∷ 7 ∷ 7 ∷ []) ≡ says false 22 0 0 5 0 7 (0xA5 ∷ 0 ∷ 1 ∷ 10 ∷ 10 ∷ 7 ∷ [])
 unfolding opened
 command-line = refl
 
-volume-line : lineRead (letters " volume 100h 1") (7 ∷ []) ≡ says false 36 256 1 0 1 7 (7 ∷ [])
+volume-line : lineRead (letters " volume 100h 1") (7 ∷ []) ≡ says false 37 256 1 0 1 7 (7 ∷ [])
 unfolding opened
 volume-line = refl
 
-set-line : lineRead (letters "set sense 1 5/24/00") (7 ∷ 7 ∷ 7 ∷ []) ≡ says true 44 1 0 3 4 9 (5 ∷ 0x24 ∷ 0 ∷ [])
+set-line : lineRead (letters "set sense 1 5/24/00") (7 ∷ 7 ∷ 7 ∷ []) ≡ says true 45 1 0 3 4 9 (5 ∷ 0x24 ∷ 0 ∷ [])
 unfolding opened
 set-line = refl
 
-free-line : lineRead (letters "set free 100h") [] ≡ says true 43 256 0 0 4 8 []
+free-line : lineRead (letters "set free 100h") [] ≡ says true 44 256 0 0 4 8 []
 unfolding opened
 free-line = refl
 
+search-line : lineRead (letters "set search 38 01 00 00") (7 ∷ 7 ∷ 7 ∷ 7 ∷ []) ≡ says true 53 38 0 3 4 10 (1 ∷ 0 ∷ 0 ∷ 7 ∷ [])
+unfolding opened
+search-line = refl
+
 -- "`\t` stands for a tab, `\xNN` for any byte", and a line feed behind the text
-log-line : lineRead (letters "log 7\\t \\x0a") (7 ∷ 7 ∷ 7 ∷ 7 ∷ 7 ∷ 7 ∷ []) ≡ says false 19 0 0 5 0 3 (55 ∷ 9 ∷ 32 ∷ 10 ∷ 10 ∷ 7 ∷ [])
+log-line : lineRead (letters "log 7\\t \\x0a") (7 ∷ 7 ∷ 7 ∷ 7 ∷ 7 ∷ 7 ∷ []) ≡ says false 20 0 0 5 0 3 (55 ∷ 9 ∷ 32 ∷ 10 ∷ 10 ∷ 7 ∷ [])
 unfolding opened
 log-line = refl
 
-empty-log-line : lineRead (letters "log") (7 ∷ []) ≡ says false 19 0 0 1 0 3 (10 ∷ [])
+empty-log-line : lineRead (letters "log") (7 ∷ []) ≡ says false 20 0 0 1 0 3 (10 ∷ [])
 unfolding opened
 empty-log-line = refl
 

@@ -2,52 +2,52 @@
 use Prim.Native.Nat.{ℕ}
 
 abbrev pub LOG : ℕ
-LOG = 19
+LOG = 20
 
 abbrev pub COMMAND : ℕ
-COMMAND = 21
+COMMAND = 22
 
 abbrev pub IMPORT : ℕ
-IMPORT = 22
+IMPORT = 23
 
 abbrev pub EXPORT : ℕ
-EXPORT = 23
+EXPORT = 24
 
 abbrev pub NUMBER : ℕ
-NUMBER = 27
+NUMBER = 28
 
 abbrev pub STATUS : ℕ
-STATUS = 28
+STATUS = 29
 
 abbrev pub COUNT : ℕ
-COUNT = 29
+COUNT = 30
 
 abbrev pub PREVENTERS : ℕ
-PREVENTERS = 30
+PREVENTERS = 31
 
 abbrev pub LINES : ℕ
-LINES = 32
+LINES = 33
 
 abbrev pub PLACE : ℕ
-PLACE = 33
+PLACE = 34
 
 abbrev pub VOLUME : ℕ
-VOLUME = 36
+VOLUME = 37
 
 abbrev pub SOURCE : ℕ
-SOURCE = 37
+SOURCE = 38
 
 abbrev pub HOLDER : ℕ
-HOLDER = 38
+HOLDER = 39
 
 abbrev pub ID : ℕ
-ID = 39
+ID = 40
 
 abbrev pub UNIT : ℕ
-UNIT = 41
+UNIT = 42
 
 abbrev pub MASK : ℕ
-MASK = 42
+MASK = 43
 
 abbrev pub SENSE : ℕ
-SENSE = 44
+SENSE = 45

@@ -39,17 +39,17 @@ pub const TABLE: u8 = b't';
 pub const KEPT: u8 = b's';
 
 // The number of the last word.
-pub const LAST: u8 = 52;
+pub const LAST: u8 = 54;
 
 // A letter for each number of a word from 0 on.
-const CLASSES: [u8; 53] = *b"\
-    ?cwwrrrrlvllllll\
+const CLASSES: [u8; 55] = *b"\
+    ?cwwrrrrlvlllllll\
     pppppkkkkgg\
     yyyyyoooa\
-    eeeeeuuuhhtttttts";
+    eeeeeuuuhhttttttts";
 
 // Which table a word of the classes `l` and `t` speaks of, and which range one of the class `r`, from 0 on.
-const WHICH: [u8; 53] = [
+const WHICH: [u8; 55] = [
     0,
     0,
     0,
@@ -66,6 +66,7 @@ const WHICH: [u8; 53] = [
     3,
     4,
     5,
+    6,
     0,
     0,
     0,
@@ -102,6 +103,7 @@ const WHICH: [u8; 53] = [
     3,
     4,
     5,
+    6,
     0,
 ];
 

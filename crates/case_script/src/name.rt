@@ -9,11 +9,11 @@ ghost use Prim.Native.Nat.{_≤_};
 ghost use Rattle.case_script.specs.Names.{lastWord, placeFrom, codeOf, shapeOf, canBeSet, settable as settableOf};
 
 // In the order of their numbers; `#`, which no word holds, has the place of the number that `tables` has a second time.
-const NAMES: [u8; 394] = *b"\
-    case tables # transport storage port drive volumes label length-head length-elements length-tags length-blank length-generations length-masks \
+const NAMES: [u8; 415] = *b"\
+    case tables # transport storage port drive volumes label length-head length-elements length-tags length-blank length-generations length-masks length-search \
     host buffer parameters log log-bytes command import export reset replay resume \
     number status count preventers lowest lines place expected answer \
-    volume source holder id mark unit mask free sense attention head elements tags blank generations masks kept";
+    volume source holder id mark unit mask free sense attention head elements tags blank generations masks search kept";
 
 // What belongs to a word.
 pub const NAME: u8 = b'w';
@@ -35,11 +35,11 @@ pub const NUMBER_TWO_BYTES: u8 = b'a';
 pub const NUMBER_THREE_BYTES: u8 = b's';
 
 // A letter for each number from 0 on; `n` is a number and bytes.
-const SHAPES: [u8; 53] = *b"\
-    ?wtt22221n111111\
+const SHAPES: [u8; 55] = *b"\
+    ?wtt22221n1111111\
     11bxbb21021\
     11111111n\
-    22222111sannnnnn0";
+    22222111sannnnnnn0";
 
 // The number of a word among the first words of a text, from 1 on; 0 where it is none of them.
 fn place_among(word: &[u8], names: &[u8], count: u8) -> u8

@@ -29,76 +29,80 @@ pub const LENGTH_GENERATIONS: u8 = 14;
 
 pub const LENGTH_MASKS: u8 = 15;
 
-pub const HOST: u8 = 16;
+pub const LENGTH_SEARCH: u8 = 16;
 
-pub const BUFFER: u8 = 17;
+pub const HOST: u8 = 17;
 
-pub const PARAMETERS: u8 = 18;
+pub const BUFFER: u8 = 18;
 
-pub const LOG: u8 = 19;
+pub const PARAMETERS: u8 = 19;
 
-pub const LOG_BYTES: u8 = 20;
+pub const LOG: u8 = 20;
 
-pub const COMMAND: u8 = 21;
+pub const LOG_BYTES: u8 = 21;
 
-pub const IMPORT: u8 = 22;
+pub const COMMAND: u8 = 22;
 
-pub const EXPORT: u8 = 23;
+pub const IMPORT: u8 = 23;
 
-pub const RESET: u8 = 24;
+pub const EXPORT: u8 = 24;
 
-pub const REPLAY: u8 = 25;
+pub const RESET: u8 = 25;
 
-pub const RESUME: u8 = 26;
+pub const REPLAY: u8 = 26;
 
-pub const NUMBER: u8 = 27;
+pub const RESUME: u8 = 27;
 
-pub const STATUS: u8 = 28;
+pub const NUMBER: u8 = 28;
 
-pub const COUNT: u8 = 29;
+pub const STATUS: u8 = 29;
 
-pub const PREVENTERS: u8 = 30;
+pub const COUNT: u8 = 30;
 
-pub const LOWEST: u8 = 31;
+pub const PREVENTERS: u8 = 31;
 
-pub const LINES: u8 = 32;
+pub const LOWEST: u8 = 32;
 
-pub const PLACE: u8 = 33;
+pub const LINES: u8 = 33;
 
-pub const EXPECTED: u8 = 34;
+pub const PLACE: u8 = 34;
 
-pub const ANSWER: u8 = 35;
+pub const EXPECTED: u8 = 35;
 
-pub const VOLUME: u8 = 36;
+pub const ANSWER: u8 = 36;
 
-pub const SOURCE: u8 = 37;
+pub const VOLUME: u8 = 37;
 
-pub const HOLDER: u8 = 38;
+pub const SOURCE: u8 = 38;
 
-pub const ID: u8 = 39;
+pub const HOLDER: u8 = 39;
 
-pub const MARK: u8 = 40;
+pub const ID: u8 = 40;
 
-pub const UNIT: u8 = 41;
+pub const MARK: u8 = 41;
 
-pub const MASK: u8 = 42;
+pub const UNIT: u8 = 42;
 
-pub const FREE: u8 = 43;
+pub const MASK: u8 = 43;
 
-pub const SENSE: u8 = 44;
+pub const FREE: u8 = 44;
 
-pub const ATTENTION: u8 = 45;
+pub const SENSE: u8 = 45;
 
-pub const HEAD: u8 = 46;
+pub const ATTENTION: u8 = 46;
 
-pub const ELEMENTS: u8 = 47;
+pub const HEAD: u8 = 47;
 
-pub const TAGS: u8 = 48;
+pub const ELEMENTS: u8 = 48;
 
-pub const BLANK: u8 = 49;
+pub const TAGS: u8 = 49;
 
-pub const GENERATIONS: u8 = 50;
+pub const BLANK: u8 = 50;
 
-pub const MASKS: u8 = 51;
+pub const GENERATIONS: u8 = 51;
 
-pub const KEPT: u8 = 52;
+pub const MASKS: u8 = 52;
+
+pub const SEARCH: u8 = 53;
+
+pub const KEPT: u8 = 54;

@@ -42,13 +42,15 @@ fn sized(state: State, n: usize, v: usize, d: usize) -> Effect
     s = case_rooms::resized(s, parts::TAGS, layout::TAG_SIZE * v);
     s = case_rooms::resized(s, parts::BLANK, layout::TAG_SIZE);
     s = case_rooms::resized(s, parts::GENERATIONS, v);
-    case_rooms::done(case_rooms::resized(s, parts::MASKS, d))
+    s = case_rooms::resized(s, parts::MASKS, d);
+    case_rooms::done(case_rooms::resized(s, parts::SEARCH, layout::SEARCH_SIZE))
 }
 
-// "a head of 60 zeros, .. a blank label of 36 blanks"
+// "a head of 60 zeros, .. a blank label of 36 blanks", and no search: "All zeros means no search"
 fn empty(room: &mut [u8]) {
     case_rooms::paint(room, parts::HEAD_AT, layout::HEAD_SIZE, 0);
     case_rooms::paint(room, parts::BLANK_AT, layout::TAG_SIZE, b' ');
+    case_rooms::paint(room, parts::SEARCH_AT, layout::SEARCH_SIZE, 0);
 }
 
 // A volume below 256 in the element at a place.

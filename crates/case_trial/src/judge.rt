@@ -258,7 +258,7 @@ fn kept_table(what: u8, length: u8, found: &[u8], before: &[u8]) -> Finding {
     bytes(what, 0, found, before)
 }
 
-// "head and elements are byte for byte what they were before the last call"
+// "head, elements and search are byte for byte what they were before the last call"
 fn kept(state: State, room: &[u8]) -> Finding {
     let before = state.kept;
     let first = kept_table(
@@ -270,11 +270,20 @@ fn kept(state: State, room: &[u8]) -> Finding {
     let Finding::Same = first else {
         return first;
     };
-    kept_table(
+    let second = kept_table(
         word::ELEMENTS,
         word::LENGTH_ELEMENTS,
         case_rooms::table(state, parts::ELEMENTS, room),
         case_rooms::part(room, parts::KEPT_ELEMENTS_AT, before[parts::ELEMENTS]),
+    );
+    let Finding::Same = second else {
+        return second;
+    };
+    kept_table(
+        word::SEARCH,
+        word::LENGTH_SEARCH,
+        case_rooms::table(state, parts::SEARCH, room),
+        case_rooms::part(room, parts::KEPT_SEARCH_AT, before[parts::SEARCH]),
     )
 }
 

@@ -156,6 +156,10 @@ fn say_kept(what: u8) {
         say(b"head");
         return;
     }
+    if what == word::SEARCH {
+        say(b"search");
+        return;
+    }
     say(b"elements");
 }
 
@@ -212,6 +216,10 @@ pub fn say_difference(line: Line, text: &[u8], number: u64, d: Difference) {
     }
     if what == word::LENGTH_ELEMENTS {
         say_length(word::ELEMENTS, d);
+        return;
+    }
+    if what == word::LENGTH_SEARCH {
+        say_length(word::SEARCH, d);
         return;
     }
     if of_bytes(class::of(line.word)) {

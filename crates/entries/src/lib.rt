@@ -13,12 +13,13 @@ pub fn command<'a>(
     blank: &'a [u8],
     generations: &'a [u8],
     masks: &'a [u8],
+    search: &mut [u8],
     host: u32,
     block: &[u8],
     parameters: &[u8],
     answer: &mut [u8],
 ) -> Reply
-    ensures { λ r. ⌜ CommandEnds (lent (now (head .entry)) (now (elements .entry)) (others (now (tags .entry)) (now (blank .entry)) (now (generations .entry)) (now (masks .entry)))) host (now (block .entry)) (now (parameters .entry)) (now (answer .entry)) r (lent (now (head .exit)) (now (elements .exit)) (others (now (tags .entry)) (now (blank .entry)) (now (generations .entry)) (now (masks .entry)))) (now (answer .exit)) ⌝ }
+    ensures { λ r. ⌜ CommandEnds (lent (now (head .entry)) (now (elements .entry)) (others (now (tags .entry)) (now (blank .entry)) (now (generations .entry)) (now (masks .entry)) (now (search .entry)))) host (now (block .entry)) (now (parameters .entry)) (now (answer .entry)) r (lent (now (head .exit)) (now (elements .exit)) (others (now (tags .entry)) (now (blank .entry)) (now (generations .entry)) (now (masks .entry)) (now (search .exit)))) (now (answer .exit)) ⌝ }
 {
     changer::smc_command(
         head,
@@ -27,6 +28,7 @@ pub fn command<'a>(
         blank,
         generations,
         masks,
+        search,
         host,
         block,
         parameters,
@@ -41,10 +43,11 @@ pub fn import<'a>(
     blank: &'a [u8],
     generations: &'a [u8],
     masks: &'a [u8],
+    search: &mut [u8],
     address: u32,
     volume: u32,
 ) -> Reply
-    ensures { λ r. ⌜ ImportEnds (lent (now (head .entry)) (now (elements .entry)) (others (now (tags .entry)) (now (blank .entry)) (now (generations .entry)) (now (masks .entry)))) address volume r (lent (now (head .exit)) (now (elements .exit)) (others (now (tags .entry)) (now (blank .entry)) (now (generations .entry)) (now (masks .entry)))) [] ⌝ }
+    ensures { λ r. ⌜ ImportEnds (lent (now (head .entry)) (now (elements .entry)) (others (now (tags .entry)) (now (blank .entry)) (now (generations .entry)) (now (masks .entry)) (now (search .entry)))) address volume r (lent (now (head .exit)) (now (elements .exit)) (others (now (tags .entry)) (now (blank .entry)) (now (generations .entry)) (now (masks .entry)) (now (search .exit)))) [] ⌝ }
 {
     changer::smc_import(
         head,
@@ -53,6 +56,7 @@ pub fn import<'a>(
         blank,
         generations,
         masks,
+        search,
         address,
         volume,
     )
@@ -65,11 +69,21 @@ pub fn export<'a>(
     blank: &'a [u8],
     generations: &'a [u8],
     masks: &'a [u8],
+    search: &mut [u8],
     address: u32,
 ) -> Reply
-    ensures { λ r. ⌜ ExportEnds (lent (now (head .entry)) (now (elements .entry)) (others (now (tags .entry)) (now (blank .entry)) (now (generations .entry)) (now (masks .entry)))) address r (lent (now (head .exit)) (now (elements .exit)) (others (now (tags .entry)) (now (blank .entry)) (now (generations .entry)) (now (masks .entry)))) [] ⌝ }
+    ensures { λ r. ⌜ ExportEnds (lent (now (head .entry)) (now (elements .entry)) (others (now (tags .entry)) (now (blank .entry)) (now (generations .entry)) (now (masks .entry)) (now (search .entry)))) address r (lent (now (head .exit)) (now (elements .exit)) (others (now (tags .entry)) (now (blank .entry)) (now (generations .entry)) (now (masks .entry)) (now (search .exit)))) [] ⌝ }
 {
-    changer::smc_export(head, elements, tags, blank, generations, masks, address)
+    changer::smc_export(
+        head,
+        elements,
+        tags,
+        blank,
+        generations,
+        masks,
+        search,
+        address,
+    )
 }
 
 pub fn reset<'a>(
@@ -79,10 +93,11 @@ pub fn reset<'a>(
     blank: &'a [u8],
     generations: &'a [u8],
     masks: &'a [u8],
+    search: &mut [u8],
 ) -> Reply
-    ensures { λ r. ⌜ ResetEnds (lent (now (head .entry)) (now (elements .entry)) (others (now (tags .entry)) (now (blank .entry)) (now (generations .entry)) (now (masks .entry)))) r (lent (now (head .exit)) (now (elements .exit)) (others (now (tags .entry)) (now (blank .entry)) (now (generations .entry)) (now (masks .entry)))) [] ⌝ }
+    ensures { λ r. ⌜ ResetEnds (lent (now (head .entry)) (now (elements .entry)) (others (now (tags .entry)) (now (blank .entry)) (now (generations .entry)) (now (masks .entry)) (now (search .entry)))) r (lent (now (head .exit)) (now (elements .exit)) (others (now (tags .entry)) (now (blank .entry)) (now (generations .entry)) (now (masks .entry)) (now (search .exit)))) [] ⌝ }
 {
-    changer::smc_reset(head, elements, tags, blank, generations, masks)
+    changer::smc_reset(head, elements, tags, blank, generations, masks, search)
 }
 
 pub fn replay<'a>(
@@ -92,11 +107,12 @@ pub fn replay<'a>(
     blank: &'a [u8],
     generations: &'a [u8],
     masks: &'a [u8],
+    search: &mut [u8],
     log: &[u8],
     expected: u32,
     budget: u32,
 ) -> Replayed
-    ensures { λ r. ⌜ ReplayEnds (lent (now (head .entry)) (now (elements .entry)) (others (now (tags .entry)) (now (blank .entry)) (now (generations .entry)) (now (masks .entry)))) (now (log .entry)) expected budget r (lent (now (head .exit)) (now (elements .exit)) (others (now (tags .entry)) (now (blank .entry)) (now (generations .entry)) (now (masks .entry)))) ⌝ }
+    ensures { λ r. ⌜ ReplayEnds (lent (now (head .entry)) (now (elements .entry)) (others (now (tags .entry)) (now (blank .entry)) (now (generations .entry)) (now (masks .entry)) (now (search .entry)))) (now (log .entry)) expected budget r (lent (now (head .exit)) (now (elements .exit)) (others (now (tags .entry)) (now (blank .entry)) (now (generations .entry)) (now (masks .entry)) (now (search .exit)))) ⌝ }
 {
     changer::smc_replay(
         head,
@@ -105,6 +121,7 @@ pub fn replay<'a>(
         blank,
         generations,
         masks,
+        search,
         log,
         expected,
         budget,

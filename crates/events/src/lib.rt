@@ -8,7 +8,7 @@ ghost use mathlib.Core.Bool.{true};
 ghost use mathlib.Core.List.{List, []};
 ghost use Prim.Native.Nat.{ℕ, _≤_};
 ghost use lib.ListN.{length};
-ghost use Rattle.rules.specs.Tables.{headSize, hosts, places, lent, changes, announcedTo, announced, Rest};
+ghost use Rattle.rules.specs.Tables.{headSize, searchSize, hosts, places, lent, searching, changes, announcedTo, announced, Rest};
 ghost use Rattle.rules.specs.Sound.{sound};
 ghost use Rattle.rules.specs.Order.{outcome};
 ghost use Rattle.rules.specs.Events.{importing, exporting, restartedFrom, resetting};
@@ -113,13 +113,15 @@ fn restart(head: &mut [u8])
     }
 }
 
-// "Reset frees all reservations, clears mask and sense, sets attention 29h/00h for all; volumes stay."
-pub fn reset(head: &mut [u8], elements: &mut [u8]) -> Reply
+// "Reset frees all reservations, clears mask and sense, sets attention 29h/00h for all; volumes stay."; of a search: "reset clears it"
+pub fn reset(head: &mut [u8], elements: &mut [u8], search: &mut [u8]) -> Reply
     requires { ⌜ headSize ≤ length (now head) ⌝ }
-    ensures { λ r. ⌜ ((rest : Rest) → sound (lent (now (head .entry)) (now (elements .entry)) rest) ≡ true → ended r (lent (now (head .exit)) (now (elements .exit)) rest) [] ≡ outcome (lent (now (head .entry)) (now (elements .entry)) rest) [] (resetting (lent (now (head .entry)) (now (elements .entry)) rest))) ⌝ }
+    requires { ⌜ length (now search) ≡ searchSize ⌝ }
+    ensures { λ r. ⌜ ((rest : Rest) → sound (lent (now (head .entry)) (now (elements .entry)) (searching rest (now (search .entry)))) ≡ true → ended r (lent (now (head .exit)) (now (elements .exit)) (searching rest (now (search .exit)))) [] ≡ outcome (lent (now (head .entry)) (now (elements .entry)) (searching rest (now (search .entry)))) [] (resetting (lent (now (head .entry)) (now (elements .entry)) (searching rest (now (search .entry)))))) ⌝ }
 {
     tables::head::hold_unit(head, 0);
     frees::free(elements, Whose::Anyone);
+    search::forget(search);
     tables::head::set_mask(head, 0);
     restart(head);
     order::told(order::GOOD, 0)

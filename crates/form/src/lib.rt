@@ -5,8 +5,8 @@ ghost use mathlib.Core.List.{List};
 ghost use Prim.Native.Nat.{ℕ, _+_, _≤_};
 ghost use lib.ListN.{length};
 ghost use Rattle.rules.specs.Tables.{headSize};
-ghost use Rattle.rules.specs.Operation.{Reserve, ReadElementStatus, ModeSense};
-ghost use Rattle.rules.specs.Form.{stray as strayIn, ownFault, lower as lowerOf, fault as faultOf};
+ghost use Rattle.rules.specs.Operation.{Reserve, ModeSense, SendVolumeTag};
+ghost use Rattle.rules.specs.Form.{stray as strayIn, typeFault, actionFault, ownFault, lower as lowerOf, fault as faultOf};
 ghost use Rattle.operation.specs.Meaning.{meaning, Fitting};
 
 // ---- the bits without a use of each byte, from byte 1 on
@@ -36,6 +36,12 @@ const READ_ELEMENT_STATUS_UNUSED: [u8; 11] = [0, 0, 0, 0, 0, 0xFF, 0, 0, 0, 0xFF
 
 // byte 1 bit 3 "DBD is ignored", byte 2 page control and page code, byte 4 allocation
 const MODE_SENSE_UNUSED: [u8; 5] = [0x17, 0x00, 0xFF, 0x00, 0xFF];
+
+// byte 1 bits 0-3 type, 2-3 start, byte 5 bits 0-4 action, 8-9 list length
+const SEND_VOLUME_TAG_UNUSED: [u8; 11] = [0x10, 0, 0, 0xFF, 0xE0, 0xFF, 0xFF, 0, 0, 0xFF, 0xFF];
+
+// byte 1 bit 4 tags, bits 0-3 type, 2-3 start, 4-5 most elements, 7-8 allocation
+const REQUEST_ADDRESS_UNUSED: [u8; 11] = [0, 0, 0, 0, 0, 0xFF, 0, 0, 0xFF, 0xFF, 0xFF];
 
 // The lowest byte that has a bit without a use; 0 where none has.
 fn stray(block: &[u8], masks: &[u8]) -> usize
@@ -70,12 +76,35 @@ fn list_fault(block: &[u8], list: &[u8]) -> usize
 // "a type code above 4"
 fn type_fault(block: &[u8]) -> usize
     requires { ⌜ length (now block) ≡ 12 ⌝ }
-    ensures { λ r. ⌜ ((head list : List ℕ) → r ≡ ownFault ReadElementStatus head (now (block .entry)) list) ⌝ }
+    ensures { λ r. ⌜ r ≡ typeFault (now (block .entry)) ⌝ }
 {
     if layout::DRIVE < block[1] % 16 {
         return 1;
     }
     0
+}
+
+// "actions 1h and 5h (primary tags), others 5/24/00"
+fn action_fault(block: &[u8]) -> usize
+    requires { ⌜ length (now block) ≡ 12 ⌝ }
+    ensures { λ r. ⌜ r ≡ actionFault (now (block .entry)) ⌝ }
+{
+    let action = block[5] % 32;
+    if action == layout::IN_RANGE {
+        return 0;
+    }
+    if action == layout::ANY_SEQUENCE {
+        return 0;
+    }
+    5
+}
+
+// SEND VOLUME TAG may be at fault in both.
+fn tag_fault(block: &[u8]) -> usize
+    requires { ⌜ length (now block) ≡ 12 ⌝ }
+    ensures { λ r. ⌜ ((head list : List ℕ) → r ≡ ownFault SendVolumeTag head (now (block .entry)) list) ⌝ }
+{
+    lower(type_fault(block), action_fault(block))
 }
 
 // "other page controls and pages", and too long an answer
@@ -125,6 +154,11 @@ pub fn fault(op: Operation, head: &[u8], block: &[u8], list: &[u8]) -> usize
             type_fault(block),
         ),
         Operation::ModeSense => lower(stray(block, &MODE_SENSE_UNUSED), page_fault(head, block)),
+        Operation::SendVolumeTag => lower(stray(block, &SEND_VOLUME_TAG_UNUSED), tag_fault(block)),
+        Operation::RequestVolumeElementAddress => lower(
+            stray(block, &REQUEST_ADDRESS_UNUSED),
+            type_fault(block),
+        ),
         Operation::Unknown => 0,
     }
 }

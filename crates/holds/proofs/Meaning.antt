@@ -15,10 +15,11 @@ use Rattle.tables.specs.Ranges.{laid}
 use Rattle.tables.proofs.Roster.{runs-laid}
 use Rattle.order.specs.declared.Cause.the-variants.{ListField as Fields}
 use Rattle.order.specs.Ending.{reason}
+use Rattle.order.specs.Holders.{anyOther}
 use Rattle.lists.specs.declared.Named.the-variants.{Wrong, Elements as Names}
 use Rattle.lists.specs.Named.{spanAt, wrong, lookedUpThen, judgedAt}
 use Rattle.holds.specs.declared.Ruling.{Ruling}
-use Rattle.holds.specs.Judged.{anyOther, onNamed, judgedFrom, elementsBy, meaning, LaidOut, Reservable}
+use Rattle.holds.specs.Judged.{onNamed, judgedFrom, elementsBy, meaning, LaidOut, Reservable}
 
 -- ---- RESERVE of elements
 

@@ -5,9 +5,9 @@ use mathlib.Core.List.{List}
 use mathlib.Core.Bool.{Bool}
 use lib.ListN.{length, getD}
 use Rattle.rules.specs.Choice.{when, anyFrom, each}
-use Rattle.rules.specs.Tables.{headSize, elementSize, mostElements, mostDescriptors, hosts, places, holder, heldAt, freedAt, Under}
+use Rattle.rules.specs.Tables.{headSize, elementSize, mostElements, mostDescriptors, hosts, places, heldAt, freedAt, Under}
 use Rattle.rules.specs.Roster.{Slot, roster}
-use Rattle.rules.specs.Order.{Verdict, refused, conflict, good, other}
+use Rattle.rules.specs.Order.{Verdict, refused, conflict, good}
 use Rattle.rules.specs.Holds.{descriptors, wrongListLength, taken, conflicts, granted}
 use Rattle.tables.specs.declared.Range.{Range}
 use Rattle.tables.specs.Ranges.{laid, Runs}
@@ -20,9 +20,6 @@ use Rattle.holds.specs.declared.Ruling.{Ruling}
 use Rattle.holds.specs.declared.Ruling.the-variants.{Refused, Conflict, Elements}
 
 -- ---- RESERVE, rung for rung
-
-unfoldable pub anyOther : List ℕ → ℕ → Bool
-anyOther elements h = anyFrom (λ p. other h (holder elements p)) (places elements) 0
 
 -- one of the elements from the first place to the end that were found for the k-th descriptor is taken
 unfoldable pub takenIn : List ℕ → ℕ → ℕ → List ℕ → List ℕ → ℕ → Bool

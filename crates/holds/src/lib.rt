@@ -16,7 +16,7 @@ ghost use Rattle.rules.specs.Holds.{taken, reserveUnit, reserve, releaseUnit, r
 ghost use Rattle.order.specs.Ending.{ended};
 ghost use Rattle.tables.specs.Ranges.{laid};
 ghost use Rattle.lists.specs.Named.{Marks};
-ghost use Rattle.holds.specs.Judged.{anyOther, takenIn, elementsBy, meaning, settledAt, settled, Grantable, LaidOut, Bounded, Carriable, Reservable};
+ghost use Rattle.holds.specs.Judged.{takenIn, elementsBy, meaning, settledAt, settled, Grantable, LaidOut, Bounded, Carriable, Reservable};
 
 // What a RESERVE of elements comes to: refused for a cause, a conflict, or that those named are held.
 pub enum Ruling {
@@ -26,21 +26,6 @@ pub enum Ruling {
 }
 
 // ---- what stands in the element table
-
-// Whether another host holds any element.
-fn any_other(elements: &[u8], host: u8) -> bool
-    ensures { λ r. ⌜ r ≡ anyOther (now (elements .entry)) host ⌝ }
-{
-    let n = tables::element::places(elements);
-    let mut p: usize = 0;
-    while p < n {
-        if order::other(host, tables::element::holder(elements, p)) {
-            return true;
-        }
-        p += 1;
-    }
-    false
-}
 
 // "held by another host, or by this host under another id"
 fn taken_at(elements: &[u8], host: u8, id: u8, place: usize) -> bool
@@ -197,7 +182,7 @@ fn reserve_unit(head: &mut [u8], elements: &[u8], host: u8) -> Reply
     requires { ⌜ host ≤ hosts ⌝ }
     ensures { λ r. ⌜ ((rest : Rest) (buffer : List ℕ) → ended r (lent (now (head .exit)) (now (elements .entry)) rest) buffer ≡ outcome (lent (now (head .entry)) (now (elements .entry)) rest) buffer (reserveUnit (lent (now (head .entry)) (now (elements .entry)) rest) host)) ⌝ }
 {
-    if any_other(elements, host) {
+    if order::any_other(elements, host) {
         return order::conflict(head, host);
     }
     let reply = order::good(head, host);

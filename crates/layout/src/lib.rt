@@ -48,6 +48,29 @@ pub const ZERO: usize = 7;
 
 pub const TAG_SIZE: usize = 36;
 
+// ---- the search: "template, type, range and next address", and the action
+
+pub const SEARCH_SIZE: usize = NEXT + 3;
+
+pub const TEMPLATE_SIZE: usize = 32;
+
+pub const SEARCH_TYPE: usize = TEMPLATE_SIZE;
+
+pub const ACTION: usize = SEARCH_TYPE + 1;
+
+// the least and the greatest sequence number, in two bytes each
+pub const LEAST: usize = ACTION + 1;
+
+pub const GREATEST: usize = LEAST + 2;
+
+// in three bytes: behind FFFFh it is 10000h
+pub const NEXT: usize = GREATEST + 2;
+
+// "actions 1h and 5h (primary tags)"; 5h: "ignore sequence numbers"
+pub const IN_RANGE: u8 = 1;
+
+pub const ANY_SEQUENCE: u8 = 5;
+
 // ---- the type codes
 
 pub const TRANSPORT: u8 = 1;
@@ -77,6 +100,10 @@ pub const BEHIND_LAST: u32 = 65536;
 pub const DESCRIPTOR_SIZE: usize = 6;
 
 pub const MOST_DESCRIPTORS: usize = 32;
+
+// ---- SEND VOLUME TAG's list: template (32), reserved (2), least sequence number (2), reserved (2), greatest (2)
+
+pub const TAG_LIST_SIZE: usize = 40;
 
 // Where a host's record begins.
 pub fn host_at(host: u8) -> usize

@@ -1,19 +1,20 @@
--- READ ELEMENT STATUS of sound tables ends as the rules say. Assumes nothing.
-use Prim.Native.Nat.{ℕ, _≤_}
+-- Sound tables can be listed, and READ ELEMENT STATUS of them ends as the rules say. Assumes nothing.
+use Prim.Native.Nat.{ℕ, _-_, _≤_}
 use native.Mathlib.Omega.{arith}
 use mathlib.Core.Path.{_≡_, refl, ap}
 use mathlib.Core.Logic.{_≢_}
 use mathlib.Core.Bool.{Bool, true, false}
 use mathlib.Core.List.{List, [], _∷_}
-use lib.ListN.{length}
+use lib.ListN.{length, take}
 use lib.Dec.{leb}
 use Rattle.rules.specs.Choice.{when}
 use Rattle.rules.specs.Bytes.{word, triple}
-use Rattle.rules.specs.Tables.{Tables, hosts, lent, sensed, Sense, inHead, inElements, change, changes, bare}
-use Rattle.rules.specs.Roster.{Slot, Range, ranges, sorted, roster}
+use Rattle.rules.specs.Tables.{Tables, hosts, lent, sensed, Change, Sense, inHead, change, changes, bare}
+use Rattle.rules.specs.Roster.{Slot, Range, ranges, sorted, spread, roster}
 use Rattle.rules.specs.Sound.{sound}
 use Rattle.rules.specs.Order.{Outcome, outcome, fits, Number, Done, GOOD}
-use Rattle.rules.specs.Listing.{withTags, keep, ofType, descriptor, page, pages, chosenBy, pagesOf, listing, readStatus}
+use Rattle.rules.specs.Listing.{withTags, keep, ofType, descriptor, page, pages, wholes, chosenOf, chosenBy, pagesOf, listing, readStatus}
+use Rattle.rules.specs.Search.{behindAll}
 use Rattle.rules.proofs.Ladder.{either}
 use Rattle.rules.proofs.Soundness.{sound-true, RangeFits}
 use Rattle.rules.proofs.Places.{spread-length}
@@ -23,7 +24,9 @@ use Rattle.order.specs.Ending.{ended}
 use Rattle.pages.specs.Pages.{stock}
 use Rattle.tables.specs.declared.Range.{Range as Code}
 use Rattle.tables.specs.Ranges.{meant, Runs}
-use Rattle.listing.specs.Counting.{Inside, Listable, Readable, Answers, asked, listed}
+use Rattle.pages.proofs.Marked.{keep-unmarked}
+use Rattle.listing.specs.declared.Query.{Query}
+use Rattle.listing.specs.Counting.{Inside, Listable, Readable, Answers, asked, selected, listed, passed}
 
 -- ---- sound tables can be listed
 
@@ -70,14 +73,23 @@ unfolding pages
 same-pages tagged t [] ss = refl
 same-pages tagged t (r ∷ rs) ss = rw (same-page tagged t (r .kind) (keep (ofType (r .kind)) ss), same-pages tagged t rs ss)
 
--- what is listed of the runs, in the block's own terms
-abbrev pub asks : Tables → List Code → List ℕ → List ℕ
-asks t runs block = listed (asked block .tagged) t (meant runs) (asked block .code) (asked block .start) (word block 4) (triple block 7)
+-- a listing of the runs, by the elements that it selects
+module _ (marks : List ℕ) (q : Query) (t : Tables) (runs : List Code) (most room : ℕ) (ss : List Slot) (is : Runs runs (t .head))
+    (e : selected marks q (meant runs) most ≡ ss) where
+  pub listed-as : listed marks q (stock (t .elements) (t .rest .tags) (t .rest .blank)) (meant runs) most room ≡ listing (q .action) (q .tagged) t room ss
+  unfolding listing listed pagesOf
+  listed-as = rw (e, is, same-pages (q .tagged) t (sorted (ranges (t .head))) ss)
 
-listing-is : (t : Tables) (runs : List Code) (block : List ℕ) → Runs runs (t .head)
-    → asks (stock (t .elements) (t .rest .tags) (t .rest .blank)) runs block ≡ listing (withTags block) t (triple block 7) (chosenBy t block)
-unfolding listing listed chosenBy pagesOf roster
-listing-is t runs block e = rw (e, same-pages (withTags block) t (sorted (ranges (t .head))) (chosenBy t block))
+  pub passed-as : (from : ℕ)
+      → passed marks q (stock (t .elements) (t .rest .tags) (t .rest .blank)) (meant runs) most room from
+      ≡ behindAll from (take (wholes (room - 8) (pagesOf (q .tagged) t ss)) ss)
+  unfolding passed pagesOf
+  passed-as from = rw (e, is, same-pages (q .tagged) t (sorted (ranges (t .head))) ss)
+
+-- without marks it is of all elements that the block chooses
+all-selected : (t : Tables) (runs : List Code) (block : List ℕ) → Runs runs (t .head) → selected [] (asked block 0) (meant runs) (word block 4) ≡ chosenBy t block
+unfolding chosenBy chosenOf roster
+all-selected t runs block is = rw (is, keep-unmarked [] (spread 0 (sorted (ranges (t .head)))) refl)
 
 -- ---- the ways out
 
@@ -95,38 +107,42 @@ leaving t o =
     }
 
 -- a GOOD reply whose bytes have room, and one whose bytes have none
-module _ (t : Tables) (h : ℕ) (bytes entry exit : List ℕ) (r : Reply) (a : Answers bytes entry exit r) where
-  abbrev Ended : List ℕ → Type 0
-  Ended head = ended r (lent head (t .elements) (t .rest)) exit ≡ outcome t entry (fits entry (Done GOOD bytes (Sense h 0 0 0 ∷ [])))
-
-  good-ends : r .number ≡ 0 → Ended (sensed (t .head) h 0 0 0)
-  unfolding fits outcome changes change inHead inElements when
+module _ (t : Tables) (cs : List Change) (bytes entry exit : List ℕ) (r : Reply) (a : Answers bytes entry exit r) where
+  pub good-ends : r .number ≡ 0 → ended r (changes cs t) exit ≡ outcome t entry (fits entry (Done GOOD bytes cs))
+  unfolding fits outcome when
   good-ends z = go (leb (length bytes) (length entry)) a
     where
       go : (b : Bool) → ended r (lent [] [] bare) exit ≡ outcome (lent [] [] bare) entry (when b (Done GOOD bytes []) (Number 5))
-          → ended r (lent (sensed (t .head) h 0 0 0) (t .elements) (t .rest)) exit ≡ outcome t entry (when b (Done GOOD bytes (Sense h 0 0 0 ∷ [])) (Number 5))
-      go true e = ap (leaving (lent (sensed (t .head) h 0 0 0) (t .elements) (t .rest))) e
+          → ended r (changes cs t) exit ≡ outcome t entry (when b (Done GOOD bytes cs) (Number 5))
+      go true e = ap (leaving (changes cs t)) e
       go false e = let n = ap (λ (o : Outcome). o .number) e in absurd (omega arith)
 
-  refused-ends : r .number ≢ 0 → Ended (t .head)
+  pub refused-ends : r .number ≢ 0 → ended r t exit ≡ outcome t entry (fits entry (Done GOOD bytes cs))
   unfolding fits outcome when
   refused-ends z = go (leb (length bytes) (length entry)) a
     where
       go : (b : Bool) → ended r (lent [] [] bare) exit ≡ outcome (lent [] [] bare) entry (when b (Done GOOD bytes []) (Number 5))
-          → ended r (lent (t .head) (t .elements) (t .rest)) exit ≡ outcome t entry (when b (Done GOOD bytes (Sense h 0 0 0 ∷ [])) (Number 5))
+          → ended r t exit ≡ outcome t entry (when b (Done GOOD bytes cs) (Number 5))
       go true e = absurd (z (ap (λ (o : Outcome). o .number) e))
       go false e = ap (leaving t) e
 
 -- the command
 module _ (t : Tables) (runs : List Code) (host : ℕ) (block entry exit : List ℕ) (r : Reply) (is : Runs runs (t .head))
-    (a : Answers (asks (stock (t .elements) (t .rest .tags) (t .rest .blank)) runs block) entry exit r) where
+    (a : Answers (listed [] (asked block 0) (stock (t .elements) (t .rest .tags) (t .rest .blank)) (meant runs) (word block 4) (triple block 7)) entry exit r) where
   abbrev Ends : List ℕ → Type 0
   Ends head = ended r (lent head (t .elements) (t .rest)) exit ≡ outcome t entry (fits entry (readStatus t host block))
 
+  answered : Answers (listing 0 (withTags block) t (triple block 7) (chosenBy t block)) entry exit r
+  answered = rw (listed-as [] (asked block 0) t runs (word block 4) (triple block 7) (chosenBy t block) is (all-selected t runs block is)) at a
+
+  wiped : changes (Sense host 0 0 0 ∷ []) t ≡ lent (sensed (t .head) host 0 0 0) (t .elements) (t .rest)
+  unfolding changes change inHead
+  wiped = refl
+
   pub ends-good : (head : List ℕ) → r .number ≡ 0 → head ≡ sensed (t .head) host 0 0 0 → Ends head
   unfolding readStatus
-  ends-good head z e = rw e (good-ends t host _ entry exit r (rw (listing-is t runs block is) at a) z)
+  ends-good head z e = rw (e, ← wiped) (good-ends t (Sense host 0 0 0 ∷ []) _ entry exit r answered z)
 
   pub ends-refused : r .number ≢ 0 → Ends (t .head)
   unfolding readStatus
-  ends-refused z = refused-ends t host _ entry exit r (rw (listing-is t runs block is) at a) z
+  ends-refused z = refused-ends t (Sense host 0 0 0 ∷ []) _ entry exit r answered z

@@ -1,5 +1,6 @@
 pub mod Choosing
 pub mod Fitting
+pub mod Parts
 pub mod Counted
 pub mod Stages
 pub mod Whole

@@ -33,81 +33,81 @@ last rs k h = rw (drop-of-length-le rs {i = k} h)
 
 -- ---- counting
 
-pub record Counting (q : Query) (s₀ : Tally) (rs : List Range) (s : Tally) (k : ℕ) : Type 0 where
-  pub same : counted q s (from rs k) ≡ counted q s₀ (meant rs)
+pub record Counting (marks : List ℕ) (q : Query) (s₀ : Tally) (rs : List Range) (s : Tally) (k : ℕ) : Type 0 where
+  pub same : counted marks q s (from rs k) ≡ counted marks q s₀ (meant rs)
   pub inside : Each Inside (from rs k)
   pub within : Within k s
   pub few : k ≤ length rs
 
-pub counting-begins : (q : Query) (s : Tally) (rs : List Range) → Each Inside (meant rs) → Within 0 s → Counting q s rs s 0
-counting-begins q s rs i w = record { same = refl; inside = i; within = w; few = omega arith }
+pub counting-begins : (marks : List ℕ) (q : Query) (s : Tally) (rs : List Range) → Each Inside (meant rs) → Within 0 s → Counting marks q s rs s 0
+counting-begins marks q s rs i w = record { same = refl; inside = i; within = w; few = omega arith }
 
-module _ (q : Query) (s₀ : Tally) (rs : List Range) (s : Tally) (k : ℕ) (d : Range) (v : Counting q s₀ rs s k) (h : k < length rs) where
+module _ (marks : List ℕ) (q : Query) (s₀ : Tally) (rs : List Range) (s : Tally) (k : ℕ) (d : Range) (v : Counting marks q s₀ rs s k) (h : k < length rs) where
   pub counting-here : Inside (meaning (getD rs k d))
   counting-here = (rw (next rs k d h) at (v .inside)) .0
 
-  pub counting-on : q .start < 65536 → (s′ : Tally) → s′ ≡ stepOf q s (meaning (getD rs k d)) → Counting q s₀ rs s′ (k + 1)
+  pub counting-on : q .start < 65536 → (s′ : Tally) → s′ ≡ stepOf marks q s (meaning (getD rs k d)) → Counting marks q s₀ rs s′ (k + 1)
   unfolding counted
   counting-on b s′ e =
       rw e
       (record {
         same = (rw (next rs k d h) at (v .same));
         inside = (rw (next rs k d h) at (v .inside)) .1;
-        within = within-more k q s (meaning (getD rs k d)) b counting-here (v .within);
+        within = within-more marks k q s (meaning (getD rs k d)) b counting-here (v .within);
         few = omega arith;
       })
 
-pub counting-ends : (q : Query) (s₀ : Tally) (rs : List Range) (s : Tally) (k : ℕ) → Counting q s₀ rs s k → length rs ≤ k → s ≡ counted q s₀ (meant rs)
+pub counting-ends : (marks : List ℕ) (q : Query) (s₀ : Tally) (rs : List Range) (s : Tally) (k : ℕ) → Counting marks q s₀ rs s k → length rs ≤ k → s ≡ counted marks q s₀ (meant rs)
 unfolding counted
-counting-ends q s₀ rs s k v h = rw (last rs k h) at (v .same)
+counting-ends marks q s₀ rs s k v h = rw (last rs k h) at (v .same)
 
 -- ---- writing
 
-pub record Writing (q : Query) (t : Tables) (s₀ : Tally) (rs : List Range) (l₀ l : List ℕ) (s : Tally) (k : ℕ) : Type 0 where
-  pub written : put l (s .at) (added q t s (from rs k)) ≡ put l₀ (s₀ .at) (added q t s₀ (meant rs))
+pub record Writing (marks : List ℕ) (q : Query) (t : Tables) (s₀ : Tally) (rs : List Range) (l₀ l : List ℕ) (s : Tally) (k : ℕ) : Type 0 where
+  pub written : put l (s .at) (added marks q t s (from rs k)) ≡ put l₀ (s₀ .at) (added marks q t s₀ (meant rs))
   pub long : length l ≡ length l₀
-  pub room : counted q s (from rs k) .at ≤ length l₀
+  pub room : counted marks q s (from rs k) .at ≤ length l₀
   pub stands : elementAt (s .place + total (from rs k)) ≤ length (t .elements)
   pub inside : Each Inside (from rs k)
   pub within : Within k s
   pub few : k ≤ length rs
 
-pub writing-begins : (q : Query) (t : Tables) (s : Tally) (rs : List Range) (l : List ℕ) → counted q s (meant rs) .at ≤ length l
-    → elementAt (s .place + total (meant rs)) ≤ length (t .elements) → Each Inside (meant rs) → Within 0 s → Writing q t s rs l l s 0
-writing-begins q t s rs l r e i w =
+pub writing-begins : (marks : List ℕ) (q : Query) (t : Tables) (s : Tally) (rs : List Range) (l : List ℕ) → counted marks q s (meant rs) .at ≤ length l
+    → elementAt (s .place + total (meant rs)) ≤ length (t .elements) → Each Inside (meant rs) → Within 0 s → Writing marks q t s rs l l s 0
+writing-begins marks q t s rs l r e i w =
     record { written = refl; long = refl; room = r; stands = e; inside = i; within = w; few = omega arith }
 
-module _ (q : Query) (t : Tables) (ok : Labelled t) (s₀ : Tally) (rs : List Range) (l₀ l : List ℕ) (s : Tally) (k : ℕ) (d : Range)
-    (v : Writing q t s₀ rs l₀ l s k) (h : k < length rs) where
+module _ (marks : List ℕ) (q : Query) (t : Tables) (ok : Labelled t) (s₀ : Tally) (rs : List Range) (l₀ l : List ℕ) (s : Tally) (k : ℕ) (d : Range)
+    (v : Writing marks q t s₀ rs l₀ l s k) (h : k < length rs) where
   pub writing-inside : Inside (meaning (getD rs k d))
   writing-inside = (rw (next rs k d h) at (v .inside)) .0
 
-  pub writing-room : stepOf q s (meaning (getD rs k d)) .at ≤ length l
+  pub writing-room : stepOf marks q s (meaning (getD rs k d)) .at ≤ length l
   unfolding counted
   writing-room =
       let a = rw (next rs k d h) at (v .room) in
-      let b = counted-up q t ok (stepOf q s (meaning (getD rs k d))) (from rs (k + 1)) in
+      let b = counted-up marks q t ok (stepOf marks q s (meaning (getD rs k d))) (from rs (k + 1)) in
       let e = v .long in
       omega arith
 
   pub writing-stands : elementAt (s .place + getD rs k d .count) ≤ length (t .elements)
-  writing-stands = stands-first q t ok s (meaning (getD rs k d)) (from rs (k + 1)) (rw (next rs k d h) at (v .stands))
+  writing-stands = stands-first marks q t ok s (meaning (getD rs k d)) (from rs (k + 1)) (rw (next rs k d h) at (v .stands))
 
-  pub writing-on : q .start < 65536 → (l′ : List ℕ) → l′ ≡ put l (s .at) (stepBytes q t s (meaning (getD rs k d)))
-      → (s′ : Tally) → s′ ≡ stepOf q s (meaning (getD rs k d)) → Writing q t s₀ rs l₀ l′ s′ (k + 1)
+  pub writing-on : q .start < 65536 → (l′ : List ℕ) → l′ ≡ put l (s .at) (stepBytes marks q t s (meaning (getD rs k d)))
+      → (s′ : Tally) → s′ ≡ stepOf marks q s (meaning (getD rs k d)) → Writing marks q t s₀ rs l₀ l′ s′ (k + 1)
   unfolding counted
   writing-on b l′ f s′ e =
       rw (e, f)
       (record {
-        written = write-step q t ok l s (meaning (getD rs k d)) (from rs (k + 1)) writing-stands ∙ (rw (next rs k d h) at (v .written));
-        long = put-length l (s .at) (stepBytes q t s (meaning (getD rs k d))) ∙ v .long;
+        written = write-step marks q t ok l s (meaning (getD rs k d)) (from rs (k + 1)) writing-stands ∙ (rw (next rs k d h) at (v .written));
+        long = put-length l (s .at) (stepBytes marks q t s (meaning (getD rs k d))) ∙ v .long;
         room = rw (next rs k d h) at (v .room);
-        stands = stands-later q t ok s (meaning (getD rs k d)) (from rs (k + 1)) (rw (next rs k d h) at (v .stands));
+        stands = stands-later marks q t ok s (meaning (getD rs k d)) (from rs (k + 1)) (rw (next rs k d h) at (v .stands));
         inside = (rw (next rs k d h) at (v .inside)) .1;
-        within = within-more k q s (meaning (getD rs k d)) b writing-inside (v .within);
+        within = within-more marks k q s (meaning (getD rs k d)) b writing-inside (v .within);
         few = omega arith;
       })
 
-pub writing-ends : (q : Query) (t : Tables) (ok : Labelled t) (s₀ : Tally) (rs : List Range) (l₀ l : List ℕ) (s : Tally) (k : ℕ)
-    → Writing q t s₀ rs l₀ l s k → length rs ≤ k → l ≡ put l₀ (s₀ .at) (added q t s₀ (meant rs))
-writing-ends q t ok s₀ rs l₀ l s k v h = sym (write-none q t ok l s) ∙ (rw (last rs k h) at (v .written))
+pub writing-ends : (marks : List ℕ) (q : Query) (t : Tables) (ok : Labelled t) (s₀ : Tally) (rs : List Range) (l₀ l : List ℕ) (s : Tally) (k : ℕ)
+    → Writing marks q t s₀ rs l₀ l s k → length rs ≤ k → l ≡ put l₀ (s₀ .at) (added marks q t s₀ (meant rs))
+writing-ends marks q t ok s₀ rs l₀ l s k v h = sym (write-none marks q t ok l s) ∙ (rw (last rs k h) at (v .written))

@@ -6,12 +6,11 @@ ghost use mathlib.Core.List.{[]};
 ghost use mathlib.Core.Bool.{true};
 ghost use Prim.Native.Nat.{ℕ, _≤_};
 ghost use lib.ListN.{length};
-ghost use Rattle.rules.specs.Tables.{lent, others, Rest};
+ghost use Rattle.rules.specs.Tables.{lent, others, searching, searchSize, Rest};
 ghost use Rattle.rules.specs.Sound.{sound};
 ghost use Rattle.rules.specs.Command.{Command};
 ghost use Rattle.rules.specs.Log.{eventOf, entryOf};
 ghost use Rattle.rules.specs.Replay.{afterLine, turnOn, turn as turnOf};
-ghost use Rattle.moves.specs.Judged.{Ready};
 ghost use Rattle.ports.specs.Judged.{Importable};
 ghost use Rattle.log_line.specs.Table.{Tabled};
 ghost use Rattle.log_call.specs.Event.{recorded};
@@ -43,14 +42,17 @@ fn obey<'a>(
     runs: [Range; 4],
     head: &mut [u8],
     elements: &mut [u8],
+    tags: &'a [u8],
+    blank: &'a [u8],
     generations: &'a [u8],
     masks: &'a [u8],
+    search: &mut [u8],
     host: u8,
     block: &[u8],
     list: &[u8],
 )
-    requires { ⌜ Ready runs (now head) (now elements) ⌝ }
-    ensures { λ _. ⌜ ((rest : Rest) → rest .generations ≡ now (generations .entry) → rest .masks ≡ now (masks .entry) → sound (lent (now (head .entry)) (now (elements .entry)) rest) ≡ true → lent (now (head .exit)) (now (elements .exit)) rest ≡ afterLine (lent (now (head .entry)) (now (elements .entry)) rest) (Command (record { host = host; block = now (block .entry); parameters = now (list .entry); buffer = [] }))) ⌝ }
+    requires { ⌜ Kept runs (now head) (now elements) (others (now tags) (now blank) (now generations) (now masks) (now search)) ⌝ }
+    ensures { λ _. ⌜ lent (now (head .exit)) (now (elements .exit)) (others (now (tags .entry)) (now (blank .entry)) (now (generations .entry)) (now (masks .entry)) (now (search .exit))) ≡ afterLine (lent (now (head .entry)) (now (elements .entry)) (others (now (tags .entry)) (now (blank .entry)) (now (generations .entry)) (now (masks .entry)) (now (search .entry)))) (Command (record { host = host; block = now (block .entry); parameters = now (list .entry); buffer = [] })) ⌝ }
 {
     if !numbers::known_host(host as u32) {
         return;
@@ -67,8 +69,10 @@ fn obey<'a>(
         runs,
         head,
         elements,
+        tags,
         generations,
         masks,
+        search,
         host,
         block,
         list,
@@ -106,9 +110,16 @@ fn event_of(block: &[u8], list: &[u8]) -> Event
 }
 
 // What an event does: whether there was one.
-fn occur(runs: [Range; 4], head: &mut [u8], elements: &mut [u8], tags: &[u8], event: Event) -> bool
-    requires { ⌜ Importable runs (now head) (now elements) (now tags) ⌝ }
-    ensures { λ r. ⌜ ((rest : Rest) (e : ℕ) → rest .tags ≡ now (tags .entry) → sound (lent (now (head .entry)) (now (elements .entry)) rest) ≡ true → record { applied = r; tables = lent (now (head .exit)) (now (elements .exit)) rest } ≡ turnOn (lent (now (head .entry)) (now (elements .entry)) rest) e (recorded e event)) ⌝ }
+fn occur(
+    runs: [Range; 4],
+    head: &mut [u8],
+    elements: &mut [u8],
+    tags: &[u8],
+    search: &mut [u8],
+    event: Event,
+) -> bool
+    requires { ⌜ Importable runs (now head) (now elements) (now tags) × (length (now search) ≡ searchSize) ⌝ }
+    ensures { λ r. ⌜ ((rest : Rest) (e : ℕ) → rest .tags ≡ now (tags .entry) → sound (lent (now (head .entry)) (now (elements .entry)) (searching rest (now (search .entry)))) ≡ true → record { applied = r; tables = lent (now (head .exit)) (now (elements .exit)) (searching rest (now (search .exit))) } ≡ turnOn (lent (now (head .entry)) (now (elements .entry)) (searching rest (now (search .entry)))) e (recorded e event)) ⌝ }
 {
     match event {
         Event::Nothing => return false,
@@ -119,7 +130,7 @@ fn occur(runs: [Range; 4], head: &mut [u8], elements: &mut [u8], tags: &[u8], ev
             events::export(runs, head, elements, address as u32);
         }
         Event::Reset => {
-            events::reset(head, elements);
+            events::reset(head, elements, search);
         }
     }
     true
@@ -134,18 +145,31 @@ fn carry<'a>(
     blank: &'a [u8],
     generations: &'a [u8],
     masks: &'a [u8],
+    search: &mut [u8],
     host: u8,
     block: &[u8],
     list: &[u8],
 ) -> bool
-    requires { ⌜ Kept runs (now head) (now elements) (others (now tags) (now blank) (now generations) (now masks)) ⌝ }
-    ensures { λ r. ⌜ ((e : ℕ) → record { applied = r; tables = lent (now (head .exit)) (now (elements .exit)) (others (now (tags .entry)) (now (blank .entry)) (now (generations .entry)) (now (masks .entry))) } ≡ turnOn (lent (now (head .entry)) (now (elements .entry)) (others (now (tags .entry)) (now (blank .entry)) (now (generations .entry)) (now (masks .entry)))) e (entryOf e host (now (block .entry)) (now (list .entry)))) ⌝ }
+    requires { ⌜ Kept runs (now head) (now elements) (others (now tags) (now blank) (now generations) (now masks) (now search)) ⌝ }
+    ensures { λ r. ⌜ ((e : ℕ) → record { applied = r; tables = lent (now (head .exit)) (now (elements .exit)) (others (now (tags .entry)) (now (blank .entry)) (now (generations .entry)) (now (masks .entry)) (now (search .exit))) } ≡ turnOn (lent (now (head .entry)) (now (elements .entry)) (others (now (tags .entry)) (now (blank .entry)) (now (generations .entry)) (now (masks .entry)) (now (search .entry)))) e (entryOf e host (now (block .entry)) (now (list .entry)))) ⌝ }
 {
     if host == 0 {
         let event = event_of(block, list);
-        return occur(runs, head, elements, tags, event);
+        return occur(runs, head, elements, tags, search, event);
     }
-    obey(runs, head, elements, generations, masks, host, block, list);
+    obey(
+        runs,
+        head,
+        elements,
+        tags,
+        blank,
+        generations,
+        masks,
+        search,
+        host,
+        block,
+        list,
+    );
     true
 }
 
@@ -158,16 +182,17 @@ pub fn turn<'a>(
     blank: &'a [u8],
     generations: &'a [u8],
     masks: &'a [u8],
+    search: &mut [u8],
     digits: &[u8],
     expected: u32,
     text: &[u8],
     block: &mut [u8],
     list: &mut [u8],
 ) -> Turned
-    requires { ⌜ Kept runs (now head) (now elements) (others (now tags) (now blank) (now generations) (now masks)) ⌝ }
+    requires { ⌜ Kept runs (now head) (now elements) (others (now tags) (now blank) (now generations) (now masks) (now search)) ⌝ }
     requires { ⌜ Tabled (now digits) ⌝ }
     requires { ⌜ (256 ≤ length (now block)) × (256 ≤ length (now list)) ⌝ }
-    ensures { λ r. ⌜ turned r (lent (now (head .exit)) (now (elements .exit)) (others (now (tags .entry)) (now (blank .entry)) (now (generations .entry)) (now (masks .entry)))) ≡ turnOf (lent (now (head .entry)) (now (elements .entry)) (others (now (tags .entry)) (now (blank .entry)) (now (generations .entry)) (now (masks .entry)))) expected (now (text .entry)) ⌝ }
+    ensures { λ r. ⌜ turned r (lent (now (head .exit)) (now (elements .exit)) (others (now (tags .entry)) (now (blank .entry)) (now (generations .entry)) (now (masks .entry)) (now (search .exit)))) ≡ turnOf (lent (now (head .entry)) (now (elements .entry)) (others (now (tags .entry)) (now (blank .entry)) (now (generations .entry)) (now (masks .entry)) (now (search .entry)))) expected (now (text .entry)) ⌝ }
     ensures { λ r. ⌜ Taken r (now (text .entry)) ⌝ }
 {
     match log_line::read_line(digits, text, block, list) {
@@ -190,6 +215,7 @@ pub fn turn<'a>(
                 blank,
                 generations,
                 masks,
+                search,
                 host,
                 &block[..b],
                 &list[..l],

@@ -48,7 +48,7 @@ module _ (op : Operation) (t : Tables) (h : ℕ) (block list : List ℕ) (u : Ta
   acts o told e = rw told e
 
   -- the answer g of steps 1 to 4
-  pub admits : (g : Admission) → g ≡ admission op (t .head) h block list → (a : Admission) → g ≡ a
+  pub admits : (g : Admission) → g ≡ admission op (t .head) (t .elements) h block list → (a : Admission) → g ≡ a
       → u ≡ after (onAdmission t h a (act (meaning op) t h block list)) t → u ≡ after (stepsOf (meaning op) t h block list) t
   unfolding stepsOf
   admits g is a told e = e ∙ ap (λ (v : Verdict). after v t) (sym (admission-is op t h block list g is (act (meaning op) t h block list) ∙ rw told refl))

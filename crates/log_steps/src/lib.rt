@@ -7,12 +7,13 @@ ghost use mathlib.Core.Path.{_≡_};
 ghost use mathlib.Core.List.{List};
 ghost use Prim.Native.Nat.{ℕ, _≤_};
 ghost use lib.ListN.{length};
-ghost use Rattle.rules.specs.Tables.{headSize, hosts, lent, Rest};
+ghost use Rattle.rules.specs.Tables.{headSize, hosts, lent, searching, Rest};
 ghost use Rattle.rules.specs.Order.{after};
 ghost use Rattle.rules.specs.Sense.{requestSense};
 ghost use Rattle.rules.specs.Command.{act, stepsOf};
 ghost use Rattle.operation.specs.Meaning.{meaning};
-ghost use Rattle.log_steps.specs.Recorded.{Recorded};
+ghost use Rattle.tables.specs.Ranges.{meant};
+ghost use Rattle.log_steps.specs.Recorded.{Recorded, Given};
 
 // REQUEST SENSE: "What was told is cleared, allocation 0 included."
 fn forget(head: &mut [u8], host: u8)
@@ -27,20 +28,22 @@ fn forget(head: &mut [u8], host: u8)
     tables::head::wipe(head, host);
 }
 
-// From step 5 on: the one place that chooses the recorded command. Of a listing and of mode pages only the cleared sense is left.
+// From step 5 on: the one place that chooses the recorded command. Of a listing and of mode pages only the cleared sense is left; a search goes on.
 fn command<'a>(
     op: Operation,
     runs: [Range; 4],
     head: &mut [u8],
     elements: &mut [u8],
+    tags: &'a [u8],
     generations: &'a [u8],
     masks: &'a [u8],
+    search: &mut [u8],
     host: u8,
     block: &[u8],
     parameters: &[u8],
 )
-    requires { ⌜ Recorded op runs (now head) (now elements) host (now block) ⌝ }
-    ensures { λ _. ⌜ ((rest : Rest) → rest .generations ≡ now (generations .entry) → rest .masks ≡ now (masks .entry) → lent (now (head .exit)) (now (elements .exit)) rest ≡ after (act (meaning op) (lent (now (head .entry)) (now (elements .entry)) rest) host (now (block .entry)) (now (parameters .entry))) (lent (now (head .entry)) (now (elements .entry)) rest)) ⌝ }
+    requires { ⌜ Recorded op runs (now head) (now elements) (now tags) (now search) host (now block) ⌝ }
+    ensures { λ _. ⌜ ((rest : Rest) → Given rest (meant runs) (now (elements .entry)) (now (tags .entry)) (now (generations .entry)) (now (masks .entry)) → lent (now (head .exit)) (now (elements .exit)) (searching rest (now (search .exit))) ≡ after (act (meaning op) (lent (now (head .entry)) (now (elements .entry)) (searching rest (now (search .entry)))) host (now (block .entry)) (now (parameters .entry))) (lent (now (head .entry)) (now (elements .entry)) (searching rest (now (search .entry))))) ⌝ }
 {
     match op {
         Operation::TestUnitReady => {
@@ -68,6 +71,12 @@ fn command<'a>(
         Operation::ModeSense => {
             order::good(head, host);
         }
+        Operation::SendVolumeTag => {
+            search::send_volume_tag(head, search, host, block, parameters);
+        }
+        Operation::RequestVolumeElementAddress => {
+            finding::go_on(runs, head, elements, tags, search, host, block);
+        }
         Operation::Unknown => {
             order::refuse(head, host, Cause::InvalidOperation);
         }
@@ -80,16 +89,18 @@ pub fn carry_out<'a>(
     runs: [Range; 4],
     head: &mut [u8],
     elements: &mut [u8],
+    tags: &'a [u8],
     generations: &'a [u8],
     masks: &'a [u8],
+    search: &mut [u8],
     host: u8,
     block: &[u8],
     parameters: &[u8],
 )
-    requires { ⌜ Recorded op runs (now head) (now elements) host (now block) ⌝ }
-    ensures { λ _. ⌜ ((rest : Rest) → rest .generations ≡ now (generations .entry) → rest .masks ≡ now (masks .entry) → lent (now (head .exit)) (now (elements .exit)) rest ≡ after (stepsOf (meaning op) (lent (now (head .entry)) (now (elements .entry)) rest) host (now (block .entry)) (now (parameters .entry))) (lent (now (head .entry)) (now (elements .entry)) rest)) ⌝ }
+    requires { ⌜ Recorded op runs (now head) (now elements) (now tags) (now search) host (now block) ⌝ }
+    ensures { λ _. ⌜ ((rest : Rest) → Given rest (meant runs) (now (elements .entry)) (now (tags .entry)) (now (generations .entry)) (now (masks .entry)) → lent (now (head .exit)) (now (elements .exit)) (searching rest (now (search .exit))) ≡ after (stepsOf (meaning op) (lent (now (head .entry)) (now (elements .entry)) (searching rest (now (search .entry)))) host (now (block .entry)) (now (parameters .entry))) (lent (now (head .entry)) (now (elements .entry)) (searching rest (now (search .entry))))) ⌝ }
 {
-    match admission::judge(op, head, host, block, parameters) {
+    match admission::judge(op, head, elements, host, block, parameters) {
         Admission::Pending => {
             steps::report_attention(head, host);
         }
@@ -104,8 +115,10 @@ pub fn carry_out<'a>(
             runs,
             head,
             elements,
+            tags,
             generations,
             masks,
+            search,
             host,
             block,
             parameters,

@@ -49,7 +49,7 @@ pub fn block_fits(block: &[u8]) -> bool
     group_fits(block[0] / 32, block.len())
 }
 
-// "for RESERVE not as many as bytes 3-4 say; for any other known command not none"
+// "for RESERVE not as many as bytes 3-4 say; for any other known command not none"; "Number 4 reads B6h's own list length"
 pub fn parameters_fit(op: Operation, block: &[u8], parameters: &[u8]) -> bool
     requires { ⌜ Fitting op (now block) ⌝ }
     ensures { λ r. ⌜ r ≡ wanted (meaning op) (now (block .entry)) (length (now (parameters .entry))) ⌝ }
@@ -65,6 +65,8 @@ pub fn parameters_fit(op: Operation, block: &[u8], parameters: &[u8]) -> bool
         Operation::ExchangeMedium => n == 0,
         Operation::ReadElementStatus => n == 0,
         Operation::ModeSense => n == 0,
+        Operation::SendVolumeTag => n == wire::word_at(block, 8) as usize,
+        Operation::RequestVolumeElementAddress => n == 0,
         Operation::Unknown => true,
     }
 }

@@ -9,7 +9,7 @@ use lib.Dec.{eqb}
 use borrow.Author.Tests.{eqb-true}
 use Rattle.rules.specs.Choice.{when, anyOf}
 use Rattle.rules.specs.Bytes.{byte}
-use Rattle.rules.specs.Operation.{Operation, TestUnitReady, RequestSense, Reserve, Release, PreventAllow, MoveMedium, ExchangeMedium, ReadElementStatus, ModeSense, Unknown, operation}
+use Rattle.rules.specs.Operation.{Operation, TestUnitReady, RequestSense, Reserve, Release, PreventAllow, MoveMedium, ExchangeMedium, ReadElementStatus, ModeSense, SendVolumeTag, RequestVolumeElementAddress, Unknown, operation}
 use Rattle.rules.specs.Command.{blockFits, groupFits}
 use Rattle.rules.proofs.Operations.{First, decoded-first}
 use Rattle.operation.specs.declared.Operation.{Operation as Declared}
@@ -26,6 +26,8 @@ Sized MoveMedium n = n ≡ 12
 Sized ExchangeMedium n = n ≡ 12
 Sized ReadElementStatus n = n ≡ 12
 Sized ModeSense n = n ≡ 6
+Sized SendVolumeTag n = n ≡ 12
+Sized RequestVolumeElementAddress n = n ≡ 12
 Sized Unknown n = 1 ≤ n
 
 pub some : (block : List ℕ) → blockFits block ≡ true → 1 ≤ length block
@@ -64,6 +66,8 @@ module _ (block : List ℕ) (e : blockFits block ≡ true) where
   by-first ExchangeMedium is = twelve 0xA6 refl is
   by-first ReadElementStatus is = twelve 0xB8 refl is
   by-first ModeSense is = six 0x1A refl is
+  by-first SendVolumeTag is = twelve 0xB6 refl is
+  by-first RequestVolumeElementAddress is = twelve 0xB5 refl is
   by-first Unknown is = some block e
 
 -- for callers: the operation op, which came out as o

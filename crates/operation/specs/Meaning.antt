@@ -3,7 +3,7 @@ use Prim.Native.Nat.{ℕ}
 use mathlib.Core.Path.{_≡_}
 use mathlib.Core.List.{List}
 use mathlib.Core.Bool.{true}
-use Rattle.rules.specs.Operation.{Operation, TestUnitReady, RequestSense, Reserve, Release, PreventAllow, MoveMedium, ExchangeMedium, ReadElementStatus, ModeSense, Unknown, operation}
+use Rattle.rules.specs.Operation.{Operation, TestUnitReady, RequestSense, Reserve, Release, PreventAllow, MoveMedium, ExchangeMedium, ReadElementStatus, ModeSense, SendVolumeTag, RequestVolumeElementAddress, Unknown, operation}
 use Rattle.rules.specs.Command.{blockFits}
 use Rattle.operation.specs.declared.Operation.{Operation as Declared}
 use Rattle.operation.specs.declared.Operation.the-variants as declared
@@ -18,6 +18,8 @@ meaning declared.MoveMedium = MoveMedium
 meaning declared.ExchangeMedium = ExchangeMedium
 meaning declared.ReadElementStatus = ReadElementStatus
 meaning declared.ModeSense = ModeSense
+meaning declared.SendVolumeTag = SendVolumeTag
+meaning declared.RequestVolumeElementAddress = RequestVolumeElementAddress
 meaning declared.Unknown = Unknown
 
 -- the operation was decoded from the block, which has its length

@@ -3,7 +3,7 @@ ghost use mathlib.Core.Path.{_≡_};
 ghost use Rattle.rules.specs.Operation.{decoded};
 ghost use Rattle.operation.specs.Meaning.{meaning};
 
-// "Eight commands", MODE SENSE, and any "Other first byte".
+// "Eight commands", MODE SENSE, the two of the search, and any "Other first byte".
 pub enum Operation {
     TestUnitReady,
     RequestSense,
@@ -14,6 +14,8 @@ pub enum Operation {
     ExchangeMedium,
     ReadElementStatus,
     ModeSense,
+    SendVolumeTag,
+    RequestVolumeElementAddress,
     Unknown,
 }
 
@@ -36,6 +38,10 @@ const EXCHANGE_MEDIUM: u8 = 0xA6;
 const READ_ELEMENT_STATUS: u8 = 0xB8;
 
 const MODE_SENSE: u8 = 0x1A;
+
+const SEND_VOLUME_TAG: u8 = 0xB6;
+
+const REQUEST_VOLUME_ELEMENT_ADDRESS: u8 = 0xB5;
 
 // The operation of a first byte.
 pub fn decode(first: u8) -> Operation
@@ -67,6 +73,12 @@ pub fn decode(first: u8) -> Operation
     }
     if first == MODE_SENSE {
         return Operation::ModeSense;
+    }
+    if first == SEND_VOLUME_TAG {
+        return Operation::SendVolumeTag;
+    }
+    if first == REQUEST_VOLUME_ELEMENT_ADDRESS {
+        return Operation::RequestVolumeElementAddress;
     }
     Operation::Unknown
 }

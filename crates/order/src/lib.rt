@@ -1,4 +1,4 @@
-// What every command shares: the reply, the three statuses, the causes of a refusal, and how an answer is cut.
+// What every command shares: the reply, the three statuses, the causes of a refusal, how an answer is cut, and what other hosts hold.
 ghost use mathlib.Core.Path.{_≡_};
 ghost use mathlib.Core.List.{List, []};
 ghost use Prim.Native.Nat.{ℕ, _≤_, min};
@@ -6,6 +6,7 @@ ghost use lib.ListN.{length};
 ghost use Rattle.rules.specs.Tables.{headSize, hosts, lent, Rest};
 ghost use Rattle.rules.specs.Order.{outcome, refused, other as otherThan, good as goodVerdict, check as checkVerdict, conflict as conflictVerdict};
 ghost use Rattle.order.specs.Ending.{ended, numbered as numberedOf, told as toldOf, reason};
+ghost use Rattle.order.specs.Holders.{anyOther};
 
 // "GOOD is 00h, CHECK CONDITION 02h, RESERVATION CONFLICT 18h."
 pub const GOOD: u8 = 0x00;
@@ -85,6 +86,21 @@ pub fn other(host: u8, owner: u8) -> bool
         return false;
     }
     owner != host
+}
+
+// Whether another host holds any element.
+pub fn any_other(elements: &[u8], host: u8) -> bool
+    ensures { λ r. ⌜ r ≡ anyOther (now (elements .entry)) host ⌝ }
+{
+    let n = tables::element::places(elements);
+    let mut p: usize = 0;
+    while p < n {
+        if other(host, tables::element::holder(elements, p)) {
+            return true;
+        }
+        p += 1;
+    }
+    false
 }
 
 // "first clears its host's sense": GOOD, with nothing else changed.

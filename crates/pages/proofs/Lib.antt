@@ -1,2 +1,4 @@
-pub mod Lent
+pub mod Keeping
+pub mod Marked
 pub mod Descriptor
+pub mod Lent

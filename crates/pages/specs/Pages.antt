@@ -7,7 +7,7 @@ use lib.ListN.{length}
 use lib.Dec.{eqb}
 use Rattle.rules.specs.Choice.{when}
 use Rattle.rules.specs.Tables.{Tables, lent, labels, elementAt, elementSize, tagSize, volume}
-use Rattle.rules.specs.Roster.{Slot, slots}
+use Rattle.rules.specs.Roster.{Slot}
 use Rattle.rules.specs.Listing.{descriptor, width, pageHeader, joined}
 
 -- the tables that a descriptor shows: all but the head
@@ -31,6 +31,6 @@ descriptors tagged t ss = joined (map (descriptor tagged t) ss)
 unfoldable pub pageBytes : Bool → ℕ → ℕ
 pageBytes tagged m = when (eqb m 0) 0 (8 + m * width tagged)
 
--- a page of n elements, of which the first m are returned
-unfoldable pub shown : Bool → Tables → ℕ → ℕ → ℕ → ℕ → ℕ → List ℕ
-shown tagged t kind a p n m = when (eqb m 0) [] (pageHeader tagged kind n ++ descriptors tagged t (slots kind a p m))
+-- a page of n elements, of which these are returned
+unfoldable pub shown : Bool → Tables → ℕ → ℕ → List Slot → List ℕ
+shown tagged t kind n ss = when (eqb (length ss) 0) [] (pageHeader tagged kind n ++ descriptors tagged t ss)

@@ -1,4 +1,6 @@
 // The bytes of a listing: descriptors, pages of them, and the header, each written to the front of the slice that is lent for it.
+pub mod marks;
+
 ghost use mathlib.Core.Path.{_≡_};
 ghost use mathlib.Core.List.{_++_};
 ghost use Prim.Native.Nat.{_+_, _*_, _≤_, _<_};
@@ -6,8 +8,9 @@ ghost use lib.ListN.{length};
 ghost use Rattle.rules.specs.Choice.{when};
 ghost use Rattle.rules.specs.Bytes.{put};
 ghost use Rattle.rules.specs.Tables.{elementAt, elementSize, tagSize};
-ghost use Rattle.rules.specs.Roster.{slots, port};
+ghost use Rattle.rules.specs.Roster.{port};
 ghost use Rattle.rules.specs.Listing.{flags as flagsOf, sourceStands, label as labelOf, front as frontOf, fourZeros, descriptor, width as widthOf, pageHeader, header as headerOf};
+ghost use Rattle.pages.specs.Marks.{marksIn, markedOf};
 ghost use Rattle.pages.specs.Pages.{stock, Labelled, slot, descriptors, pageBytes, shown};
 
 // The header of a listing, and that of a page.
@@ -183,29 +186,28 @@ fn describe<'a>(
     }
 }
 
-// Writes the descriptors of n elements of a type, from an address and a place on.
-fn describe_run<'a>(
+// Writes the descriptor of an element from a place of d on, if it is marked, and answers where the next one goes.
+fn describe_marked<'a>(
     d: &mut [u8],
+    at: usize,
     elements: &[u8],
     tags: &'a [u8],
     blank: &'a [u8],
+    marks: &[u8],
     tagged: bool,
     kind: u8,
     address: usize,
     place: usize,
-    n: usize,
-)
-    requires { ⌜ n * widthOf tagged ≤ length (now d) ⌝ }
-    requires { ⌜ address + n ≤ 65536 ⌝ }
-    requires { ⌜ elementAt (place + n) ≤ length (now elements) ⌝ }
+) -> usize
+    requires { ⌜ at + marksIn (now marks) 1 place * widthOf tagged ≤ length (now d) ⌝ }
+    requires { ⌜ address < 65536 ⌝ }
+    requires { ⌜ elementAt place + elementSize ≤ length (now elements) ⌝ }
     requires { ⌜ Labelled (stock (now elements) (now tags) (now blank)) ⌝ }
-    ensures { λ _. ⌜ now (d .exit) ≡ put (now (d .entry)) 0 (descriptors tagged (stock (now (elements .entry)) (now (tags .entry)) (now (blank .entry))) (slots kind address place n)) ⌝ }
+    ensures { λ _. ⌜ now (d .exit) ≡ put (now (d .entry)) at (descriptors tagged (stock (now (elements .entry)) (now (tags .entry)) (now (blank .entry))) (markedOf (now (marks .entry)) kind address place 1)) ⌝ }
+    ensures { λ r. ⌜ r ≡ at + marksIn (now (marks .entry)) 1 place * widthOf tagged ⌝ }
 {
-    let w = width(tagged);
-    let mut i = 0;
-    let mut at = 0;
-    while i < n {
-        let next = at + w;
+    if marks::marked(marks, place) {
+        let next = at + width(tagged);
         describe(
             &mut d[at..next],
             elements,
@@ -213,10 +215,48 @@ fn describe_run<'a>(
             blank,
             tagged,
             kind,
+            address,
+            place,
+        );
+        return next;
+    }
+    at
+}
+
+// Writes the descriptors of those of n elements of a type that are marked, from an address and a place on.
+fn describe_run<'a>(
+    d: &mut [u8],
+    elements: &[u8],
+    tags: &'a [u8],
+    blank: &'a [u8],
+    marks: &[u8],
+    tagged: bool,
+    kind: u8,
+    address: usize,
+    place: usize,
+    n: usize,
+)
+    requires { ⌜ marksIn (now marks) n place * widthOf tagged ≤ length (now d) ⌝ }
+    requires { ⌜ address + n ≤ 65536 ⌝ }
+    requires { ⌜ elementAt (place + n) ≤ length (now elements) ⌝ }
+    requires { ⌜ Labelled (stock (now elements) (now tags) (now blank)) ⌝ }
+    ensures { λ _. ⌜ now (d .exit) ≡ put (now (d .entry)) 0 (descriptors tagged (stock (now (elements .entry)) (now (tags .entry)) (now (blank .entry))) (markedOf (now (marks .entry)) kind address place n)) ⌝ }
+{
+    let mut i = 0;
+    let mut at = 0;
+    while i < n {
+        at = describe_marked(
+            d,
+            at,
+            elements,
+            tags,
+            blank,
+            marks,
+            tagged,
+            kind,
             address + i,
             place + i,
         );
-        at = next;
         i += 1;
     }
 }
@@ -247,25 +287,28 @@ fn page_header(d: &mut [u8], tagged: bool, kind: u8, n: usize)
     wire::put_triple(d, 5, bytes as u32);
 }
 
-// Writes a page of n elements, of which the first m are returned, from a place of the answer on.
+// Writes a page of n elements, of which the m that are marked in a run are returned, from a place of the answer on.
 pub fn put_page<'a>(
     answer: &mut [u8],
     at: usize,
     elements: &[u8],
     tags: &'a [u8],
     blank: &'a [u8],
+    marks: &[u8],
     tagged: bool,
     kind: u8,
     address: usize,
     place: usize,
+    run: usize,
     n: usize,
     m: usize,
 )
     requires { ⌜ at + pageBytes tagged m ≤ length (now answer) ⌝ }
-    requires { ⌜ (address + m ≤ 65536) × ((n < 65536) × (m < 65536)) ⌝ }
-    requires { ⌜ elementAt (place + m) ≤ length (now elements) ⌝ }
+    requires { ⌜ (m ≡ marksIn (now marks) run place) × (n < 65536) ⌝ }
+    requires { ⌜ address + run ≤ 65536 ⌝ }
+    requires { ⌜ elementAt (place + run) ≤ length (now elements) ⌝ }
     requires { ⌜ Labelled (stock (now elements) (now tags) (now blank)) ⌝ }
-    ensures { λ _. ⌜ now (answer .exit) ≡ put (now (answer .entry)) at (shown tagged (stock (now (elements .entry)) (now (tags .entry)) (now (blank .entry))) kind address place n m) ⌝ }
+    ensures { λ _. ⌜ now (answer .exit) ≡ put (now (answer .entry)) at (shown tagged (stock (now (elements .entry)) (now (tags .entry)) (now (blank .entry))) kind n (markedOf (now (marks .entry)) kind address place run)) ⌝ }
 {
     if m == 0 {
         return;
@@ -278,23 +321,24 @@ pub fn put_page<'a>(
         elements,
         tags,
         blank,
+        marks,
         tagged,
         kind,
         address,
         place,
-        m,
+        run,
     );
 }
 
 // ---- the header
 
-// "first chosen address (0 if none), number chosen, 0, three-byte count of all page bytes"
-pub fn header(d: &mut [u8], first: usize, n: usize, bytes: usize)
+// "first chosen address (0 if none), number chosen, 0, three-byte count of all page bytes"; a search tells its action, the code, in the fifth byte
+pub fn header(d: &mut [u8], first: usize, n: usize, code: u8, bytes: usize)
     requires { ⌜ (8 ≤ length (now d)) × ((first < 65536) × ((n < 65536) × (bytes < 16777216))) ⌝ }
-    ensures { λ _. ⌜ now (d .exit) ≡ put (now (d .entry)) 0 (headerOf first n bytes) ⌝ }
+    ensures { λ _. ⌜ now (d .exit) ≡ put (now (d .entry)) 0 (headerOf first n code bytes) ⌝ }
 {
     wire::put_word(d, 0, first as u16);
     wire::put_word(d, 2, n as u16);
-    d[4] = 0;
+    d[4] = code;
     wire::put_triple(d, 5, bytes as u32);
 }

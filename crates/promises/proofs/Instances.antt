@@ -10,11 +10,12 @@ use lib.Dec.{leb}
 use borrow.Author.Tests.{leb-true}
 use Rattle.rules.specs.Choice.{when, differ}
 use Rattle.rules.specs.Bytes.{byte}
-use Rattle.rules.specs.Roster.{range, roster}
+use Rattle.rules.specs.Roster.{roster}
 use Rattle.rules.specs.Tables.{Tables, volume, source, panel, emptyShelves}
 use Rattle.rules.specs.Fitting.{accepts}
 use Rattle.rules.specs.Sound.{sound}
 use Rattle.rules.specs.Order.{Outcome, heldByOther, volumeOf, GOOD, CHECK-CONDITION, RESERVATION-CONFLICT}
+use Rattle.rules.specs.Listing.{chosenBy}
 use Rattle.rules.specs.Moves.{transportUsed}
 use Rattle.rules.specs.Command.{Request, Call, Command, Import, Export, Reset, serve}
 use Rattle.rules.specs.Numbers.{conditions, Foremost}
@@ -172,20 +173,20 @@ p12-keeps : Kept (Command p12) (serve small (Command p12))
 p12-keeps = buffer-kept small (Command p12)
 
 -- its bytes stand in the buffer; with an allocation of 47 the second descriptor would not have fitted
-p12-listed : Listed small p12 (serve small (Command p12))
+p12-listed : Listed 0 small p12 48 (chosenBy small (readBlock 2 2 48)) (serve small (Command p12))
 unfolding opened p12
 p12-listed = listings-returned small p12 refl refl refl
 
-cut-47 : length (returnedFor small (readBlock 2 2 47) 47) ≡ 32
+cut-47 : length (returnedFor 0 small (readBlock 2 2 47) 47 (chosenBy small (readBlock 2 2 47))) ≡ 32
 unfolding opened
 cut-47 = refl
 
-whole-48 : length (wholeAnswer small (readBlock 2 2 47)) ≡ 48
+whole-48 : length (wholeAnswer 0 small (readBlock 2 2 47) (chosenBy small (readBlock 2 2 47))) ≡ 48
 unfolding opened
 whole-48 = refl
 
-cut-47-honest : Honest small (readBlock 2 2 47) 47
-cut-47-honest = honest-listings small (readBlock 2 2 47) 47
+cut-47-honest : Honest 0 small (readBlock 2 2 47) 47 (chosenBy small (readBlock 2 2 47))
+cut-47-honest = honest-listings small (readBlock 2 2 47) 47 .read
 
 -- ---- MODE SENSE: all pages of the small library, whole and cut in the middle of a page
 
@@ -215,15 +216,15 @@ five-counted = refl
 -- ---- histories
 
 -- the history that the rules themselves make
-passes : Tables → List Call → Tables
+unfoldable pub passes : Tables → List Call → Tables
 passes t [] = t
 passes t (c ∷ cs) = passes (serve t c .tables) cs
 
-gives : Tables → List Call → List Outcome
+unfoldable pub gives : Tables → List Call → List Outcome
 gives t [] = []
 gives t (c ∷ cs) = serve t c ∷ gives (serve t c .tables) cs
 
-history : (t : Tables) (cs : List Call) → History t cs (gives t cs) (passes t cs)
+unfoldable pub history : (t : Tables) (cs : List Call) → History t cs (gives t cs) (passes t cs)
 unfolding passes gives
 history t [] = begun
 history t (c ∷ cs) = called refl (history (serve t c .tables) cs)

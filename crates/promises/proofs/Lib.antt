@@ -11,6 +11,8 @@ pub mod Drives
 pub mod Arms
 pub mod Listings
 pub mod Modes
+pub mod Searches
 pub mod Replays
 pub mod Instances
 pub mod ReplayInstances
+pub mod SearchInstances

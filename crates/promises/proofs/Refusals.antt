@@ -8,7 +8,7 @@ use lib.ListN.{length}
 use Rattle.rules.specs.Bytes.{byte}
 use Rattle.rules.specs.Tables.{Tables}
 use Rattle.rules.specs.Order.{GOOD, CHECK-CONDITION}
-use Rattle.rules.specs.Operation.{Operation, TestUnitReady, RequestSense, Reserve, Release, PreventAllow, MoveMedium, ExchangeMedium, ReadElementStatus, ModeSense, Unknown, REQUEST-SENSE, READ-ELEMENT-STATUS, MODE-SENSE, decoded, operation}
+use Rattle.rules.specs.Operation.{Operation, TestUnitReady, RequestSense, Reserve, Release, PreventAllow, MoveMedium, ExchangeMedium, ReadElementStatus, ModeSense, SendVolumeTag, RequestVolumeElementAddress, Unknown, REQUEST-SENSE, READ-ELEMENT-STATUS, MODE-SENSE, REQUEST-VOLUME-ELEMENT-ADDRESS, decoded, operation}
 use Rattle.rules.specs.Command.{Call, Command, Import, Export, Reset, bufferOf, serve, verdict}
 use Rattle.rules.proofs.Ladder.{either, never}
 use Rattle.rules.proofs.Operations.{First, decoded-first}
@@ -56,7 +56,7 @@ buffer-kept t c =
       fits = fits t c;
     }
 
-reads-first : (b : ℕ) (op : Operation) → reads op ≡ true → First op b → (b ≡ REQUEST-SENSE) ⊎ (b ≡ READ-ELEMENT-STATUS) ⊎ (b ≡ MODE-SENSE)
+reads-first : (b : ℕ) (op : Operation) → reads op ≡ true → First op b → (b ≡ REQUEST-SENSE) ⊎ (b ≡ READ-ELEMENT-STATUS) ⊎ (b ≡ MODE-SENSE) ⊎ (b ≡ REQUEST-VOLUME-ELEMENT-ADDRESS)
 reads-first b TestUnitReady m e = absurd (never m)
 reads-first b RequestSense m e = inl e
 reads-first b Reserve m e = absurd (never m)
@@ -65,7 +65,9 @@ reads-first b PreventAllow m e = absurd (never m)
 reads-first b MoveMedium m e = absurd (never m)
 reads-first b ExchangeMedium m e = absurd (never m)
 reads-first b ReadElementStatus m e = inr (inl e)
-reads-first b ModeSense m e = inr (inr e)
+reads-first b ModeSense m e = inr (inr (inl e))
+reads-first b SendVolumeTag m e = absurd (never m)
+reads-first b RequestVolumeElementAddress m e = inr (inr (inr e))
 reads-first b Unknown m e = absurd (never m)
 
 pub only-reads : OnlyReads

@@ -11,4 +11,5 @@ pub mod Drives
 pub mod Arms
 pub mod Listings
 pub mod Modes
+pub mod Searches
 pub mod Replays

@@ -6,7 +6,7 @@ use lib.ListN.{length}
 use Rattle.rules.specs.Bytes.{byte}
 use Rattle.rules.specs.Tables.{Tables, hostAt}
 use Rattle.rules.specs.Order.{Outcome, GOOD, CHECK-CONDITION, RESERVATION-CONFLICT}
-use Rattle.rules.specs.Operation.{REQUEST-SENSE, READ-ELEMENT-STATUS, MODE-SENSE}
+use Rattle.rules.specs.Operation.{REQUEST-SENSE, READ-ELEMENT-STATUS, MODE-SENSE, REQUEST-VOLUME-ELEMENT-ADDRESS}
 use Rattle.rules.specs.Command.{Request, Call, Command, Import, Export, Reset, bufferOf, serve}
 
 -- ---- refused by a house number
@@ -56,9 +56,12 @@ pub record Kept (c : Call) (o : Outcome) : Type 0 where
 abbrev pub BufferKept : Type 0
 BufferKept = (t : Tables) (c : Call) → Kept c (serve t c)
 
--- "Only REQUEST SENSE and READ ELEMENT STATUS with GOOD return bytes; every other count is 0." With MODE SENSE there is a third
+-- "Only REQUEST SENSE and READ ELEMENT STATUS with GOOD return bytes; every other count is 0." MODE SENSE is a third, REQUEST VOLUME
+-- ELEMENT ADDRESS a fourth
 abbrev pub Reads : Call → Type 0
-Reads (Command r) = (byte (r .block) 0 ≡ REQUEST-SENSE) ⊎ (byte (r .block) 0 ≡ READ-ELEMENT-STATUS) ⊎ (byte (r .block) 0 ≡ MODE-SENSE)
+Reads (Command r) =
+    (byte (r .block) 0 ≡ REQUEST-SENSE) ⊎ (byte (r .block) 0 ≡ READ-ELEMENT-STATUS) ⊎ (byte (r .block) 0 ≡ MODE-SENSE)
+    ⊎ (byte (r .block) 0 ≡ REQUEST-VOLUME-ELEMENT-ADDRESS)
 Reads (Import address volume) = ⊥
 Reads (Export address) = ⊥
 Reads Reset = ⊥

@@ -7,7 +7,7 @@ use mathlib.Core.Bool.{Bool, true, false}
 use mathlib.Core.List.{List}
 use lib.ListN.{length, drop, length-drop}
 use lib.Seq.{drop-drop}
-use Rattle.rules.specs.Tables.{Tables, Rest, lent}
+use Rattle.rules.specs.Tables.{Tables, Rest, lent, searching}
 use Rattle.rules.specs.Roster.{ranges, sorted}
 use Rattle.rules.specs.Sound.{sound}
 use Rattle.rules.specs.Log.{LINE-FEED, firstOf, before, Line, Other, Entry, lineOf}
@@ -117,11 +117,11 @@ module _ (t₀ : Tables) (log : List ℕ) (e₀ budget : ℕ) where
               inv ∙ ap (ahead lines place) g ∙ sym (ahead-ahead lines 1 place n _)
 
 -- "checked once": a line leaves sound tables sound, and the ranges as they are
-pub still-kept : (runs : List Range) (head elements : List ℕ) (rest : Rest) → Kept runs head elements rest → (e : ℕ) (s : List ℕ) (r : Turned) (head' elements' : List ℕ)
-    → turned r (lent head' elements' rest) ≡ turn (lent head elements rest) e s → Kept runs head' elements' rest
-still-kept runs head elements rest k e s r head' elements' i =
+pub still-kept : (runs : List Range) (head elements : List ℕ) (rest : Rest) → Kept runs head elements rest → (e : ℕ) (s : List ℕ) (r : Turned) (head' elements' : List ℕ) (rest' : Rest)
+    → turned r (lent head' elements' rest') ≡ turn (lent head elements rest) e s → Kept runs head' elements' rest'
+still-kept runs head elements rest k e s r head' elements' rest' i =
     let t = lent head elements rest in
-    let u : lent head' elements' rest ≡ turn t e s .tables = tables-of r (lent head' elements' rest) ∙ ap (λ (x : Turn). x .tables) i in
+    let u : lent head' elements' rest' ≡ turn t e s .tables = tables-of r (lent head' elements' rest') ∙ ap (λ (x : Turn). x .tables) i in
     record {
       sound-now = rw u (turn-sound t e s (k .sound-now));
       runs-are = k .runs-are ∙ ap sorted (sym (ap (λ (x : Tables). ranges (x .head)) u ∙ turn-ranges t e s));
@@ -133,15 +133,16 @@ still-kept runs head elements rest k e s r head' elements' i =
 
 -- ---- the loop
 
-pub record Going (head₀ elements₀ : List ℕ) (rest : Rest) (log : List ℕ) (expected budget : ℕ) (runs : List Range) (head elements block list : List ℕ) (lines place next : ℕ) : Type 0 where
+pub record Going (head₀ elements₀ search₀ : List ℕ) (rest : Rest) (log : List ℕ) (expected budget : ℕ) (runs : List Range) (head elements search block list : List ℕ) (lines place next : ℕ) : Type 0 where
   pub kept-head : length head ≡ length head₀
   pub kept-elements : length elements ≡ length elements₀
-  pub kept : Kept runs head elements rest
+  pub kept-search : length search ≡ length search₀
+  pub kept : Kept runs head elements (searching rest search)
   pub block-room : length block ≡ 256
   pub list-room : length list ≡ 256
   pub within-budget : lines ≤ budget
   pub inside : place ≤ length log
-  pub stands : Stands (lent head₀ elements₀ rest) log expected budget (lent head elements rest) lines place next
+  pub stands : Stands (lent head₀ elements₀ (searching rest search₀)) log expected budget (lent head elements (searching rest search)) lines place next
 
 -- ---- the whole
 

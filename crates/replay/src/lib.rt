@@ -40,14 +40,15 @@ fn turns<'a>(
     blank: &'a [u8],
     generations: &'a [u8],
     masks: &'a [u8],
+    search: &mut [u8],
     digits: &[u8],
     log: &[u8],
     expected: u32,
     budget: u32,
 ) -> Replayed
-    requires { ⌜ Kept runs (now head) (now elements) (others (now tags) (now blank) (now generations) (now masks)) ⌝ }
+    requires { ⌜ Kept runs (now head) (now elements) (others (now tags) (now blank) (now generations) (now masks) (now search)) ⌝ }
     requires { ⌜ Tabled (now digits) ⌝ }
-    ensures { λ r. ⌜ ended r (lent (now (head .exit)) (now (elements .exit)) (others (now (tags .entry)) (now (blank .entry)) (now (generations .entry)) (now (masks .entry)))) ≡ turnsOf budget (lent (now (head .entry)) (now (elements .entry)) (others (now (tags .entry)) (now (blank .entry)) (now (generations .entry)) (now (masks .entry)))) (now (log .entry)) expected ⌝ }
+    ensures { λ r. ⌜ ended r (lent (now (head .exit)) (now (elements .exit)) (others (now (tags .entry)) (now (blank .entry)) (now (generations .entry)) (now (masks .entry)) (now (search .exit)))) ≡ turnsOf budget (lent (now (head .entry)) (now (elements .entry)) (others (now (tags .entry)) (now (blank .entry)) (now (generations .entry)) (now (masks .entry)) (now (search .entry)))) (now (log .entry)) expected ⌝ }
 {
     let mut block = [0u8; ROOM];
     let mut list = [0u8; ROOM];
@@ -67,6 +68,7 @@ fn turns<'a>(
             blank,
             generations,
             masks,
+            search,
             digits,
             next,
             text,
@@ -90,13 +92,14 @@ pub fn replay<'a>(
     blank: &'a [u8],
     generations: &'a [u8],
     masks: &'a [u8],
+    search: &mut [u8],
     log: &[u8],
     expected: u32,
     budget: u32,
 ) -> Replayed
-    ensures { λ r. ⌜ ended r (lent (now (head .exit)) (now (elements .exit)) (others (now (tags .entry)) (now (blank .entry)) (now (generations .entry)) (now (masks .entry)))) ≡ replayOf (lent (now (head .entry)) (now (elements .entry)) (others (now (tags .entry)) (now (blank .entry)) (now (generations .entry)) (now (masks .entry)))) (now (log .entry)) expected budget ⌝ }
+    ensures { λ r. ⌜ ended r (lent (now (head .exit)) (now (elements .exit)) (others (now (tags .entry)) (now (blank .entry)) (now (generations .entry)) (now (masks .entry)) (now (search .exit)))) ≡ replayOf (lent (now (head .entry)) (now (elements .entry)) (others (now (tags .entry)) (now (blank .entry)) (now (generations .entry)) (now (masks .entry)) (now (search .entry)))) (now (log .entry)) expected budget ⌝ }
 {
-    let checked = sound::check(head, elements, tags, blank, generations, masks);
+    let checked = sound::check(head, elements, tags, blank, generations, masks, search);
     if !checked.sound {
         return told(1, 0, 0, expected);
     }
@@ -111,6 +114,7 @@ pub fn replay<'a>(
         blank,
         generations,
         masks,
+        search,
         &digits,
         log,
         expected,

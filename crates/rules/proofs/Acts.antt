@@ -2,16 +2,19 @@
 use Prim.Native.Nat.{ℕ}
 use native.Mathlib.Omega.{arith}
 use mathlib.Core.Path.{_≡_, refl, ap, subst, _∙_}
+use mathlib.Core.Bool.{true}
 use mathlib.Core.List.{List, [], _∷_}
 use lib.ListN.{length}
 use lib.Dec.{leb}
 use borrow.Author.Tests.{eqb-true}
 use Rattle.rules.specs.Choice.{when}
 use Rattle.rules.specs.Bytes.{byte, triple}
-use Rattle.rules.specs.Tables.{Tables, Sense}
-use Rattle.rules.specs.Operation.{Operation, ReadElementStatus, READ-ELEMENT-STATUS, decoded, operation}
+use Rattle.rules.specs.Tables.{Tables, hosts, Sense}
+use Rattle.rules.specs.Operation.{Operation, ReadElementStatus, RequestVolumeElementAddress, READ-ELEMENT-STATUS, REQUEST-VOLUME-ELEMENT-ADDRESS, decoded, operation}
+use Rattle.rules.specs.Sound.{sound, within}
 use Rattle.rules.specs.Order.{Verdict, Number, Prevented, Done, GOOD, check, conflict, outcome, fits}
 use Rattle.rules.specs.Listing.{withTags, chosenBy, listing, readStatus}
+use Rattle.rules.specs.Search.{requestAddress}
 use Rattle.rules.specs.Form.{fault}
 use Rattle.rules.specs.Command.{Request, Command, act, stepsOf, steps, afterNumbers, judged, judge, verdict, bufferOf, serve}
 use Rattle.rules.proofs.Ladder.{on}
@@ -91,9 +94,27 @@ unfolding serve bufferOf
 good-serves op t r o e g =
     ap (outcome t (r .buffer)) (good-acts t r e g .acts ∙ ap (λ (x : Operation). act x t (r .host) (r .block) (r .parameters)) o)
 
+-- a call with number 0 is one of hosts 1 to 8, on sound tables
+abbrev Known : Tables → Request → Verdict → Type 0
+Known t r v = outcome t (r .buffer) v .number ≡ 0 → (within 1 hosts (r .host) ≡ true) × (sound t ≡ true)
+
+pub good-known : (t : Tables) (r : Request) → serve t (Command r) .number ≡ 0 → (within 1 hosts (r .host) ≡ true) × (sound t ≡ true)
+unfolding serve bufferOf verdict judge judged afterNumbers
+good-known t r =
+    let K : Verdict → Type 0 = Known t r in
+    on K (sound t)
+    (λ s. on K (within 1 hosts (r .host)) (λ w _. (w, s)) (λ _. unfold outcome in λ e. absurd (omega (arith, e))))
+    (λ _. unfold outcome in λ e. absurd (omega (arith, e)))
+
 -- READ ELEMENT STATUS returns the listing for the block's own allocation
 pub listing-serves : (t : Tables) (r : Request) → byte (r .block) 0 ≡ READ-ELEMENT-STATUS → serve t (Command r) .number ≡ 0 → serve t (Command r) .status ≡ GOOD
     → serve t (Command r)
-    ≡ outcome t (r .buffer) (Done GOOD (listing (withTags (r .block)) t (triple (r .block) 7) (chosenBy t (r .block))) (Sense (r .host) 0 0 0 ∷ []))
+    ≡ outcome t (r .buffer) (Done GOOD (listing 0 (withTags (r .block)) t (triple (r .block) 7) (chosenBy t (r .block))) (Sense (r .host) 0 0 0 ∷ []))
 unfolding operation decoded when act readStatus
 listing-serves t r first e g = good-serves ReadElementStatus t r (ap decoded first) e g
+
+-- REQUEST VOLUME ELEMENT ADDRESS ends with what it carries out
+pub found-serves : (t : Tables) (r : Request) → byte (r .block) 0 ≡ REQUEST-VOLUME-ELEMENT-ADDRESS → serve t (Command r) .number ≡ 0 → serve t (Command r) .status ≡ GOOD
+    → serve t (Command r) ≡ outcome t (r .buffer) (requestAddress t (r .host) (r .block))
+unfolding operation decoded when act
+found-serves t r first e g = good-serves RequestVolumeElementAddress t r (ap decoded first) e g

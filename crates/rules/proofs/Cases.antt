@@ -13,11 +13,11 @@ use Rattle.rules.specs.Tables.{lent, ofRow}
 use Rattle.rules.specs.Order.{Outcome}
 use Rattle.rules.specs.Command.{serve}
 use Rattle.rules.specs.Small.{endsOn, ends, checks, refuses}
-use Rattle.rules.specs.Cases.{Case, Name, moves, exchanges, whole12, read12, cuts, tagged, labelled, wholeAll, readAll, failedReserve, ownSense, importAfterReset, shipped, twice, laden, locked, numbers, eventNumbers, stepCases, heldBy, withheld, touchCases, holdCases, eventCases, addressPage, geometryPage, capabilityPage, wholeModes, modeBlock, modeCases, armsHead, armsElements, longCases, carries, shelfMoves, shelfExchanges, unsoundSource, sourceCases, unsoundPanel, panelCases, wrongDrive, fitMoves, fitExchanges, unsoundFit, fitCases, threeArms, armsOf, armCarries, armStalls, armMoves, armExchanges, cases, same, sameAll, sameOutcome, wrong}
+use Rattle.rules.specs.Cases.{Case, Name, moves, exchanges, whole12, read12, cuts, tagged, labelled, wholeAll, readAll, failedReserve, ownSense, importAfterReset, shipped, twice, laden, locked, numbers, eventNumbers, stepCases, heldBy, withheld, touchCases, holdCases, eventCases, addressPage, geometryPage, capabilityPage, wholeModes, modeBlock, modeCases, armsHead, armsElements, longCases, carries, shelfMoves, shelfExchanges, unsoundSource, sourceCases, unsoundPanel, panelCases, wrongDrive, fitMoves, fitExchanges, unsoundFit, fitCases, threeArms, armsOf, armCarries, armStalls, armMoves, armExchanges, FILM-any, filmsFrom, sendsTag, tagCases, heldShelf, meetsHolder, holderCases, found-header, shelf-page, shelf-full, finds, findCases, matchCases, unsoundSearch, searchCases, cases, same, sameAll, sameOutcome, wrong}
 
 -- `wrong` with every definition open. The table is computed in parts that are small enough for an error to name the row.
 tested : List Case → List Name
-unfolding opened endsOn ends checks refuses moves exchanges whole12 read12 cuts tagged labelled wholeAll readAll failedReserve ownSense importAfterReset shipped twice laden locked numbers eventNumbers stepCases heldBy withheld touchCases holdCases eventCases addressPage geometryPage capabilityPage wholeModes modeBlock modeCases armsHead armsElements longCases carries shelfMoves shelfExchanges unsoundSource sourceCases unsoundPanel panelCases wrongDrive fitMoves fitExchanges unsoundFit fitCases threeArms armsOf armCarries armStalls armMoves armExchanges cases same sameAll sameOutcome wrong
+unfolding opened endsOn ends checks refuses moves exchanges whole12 read12 cuts tagged labelled wholeAll readAll failedReserve ownSense importAfterReset shipped twice laden locked numbers eventNumbers stepCases heldBy withheld touchCases holdCases eventCases addressPage geometryPage capabilityPage wholeModes modeBlock modeCases armsHead armsElements longCases carries shelfMoves shelfExchanges unsoundSource sourceCases unsoundPanel panelCases wrongDrive fitMoves fitExchanges unsoundFit fitCases threeArms armsOf armCarries armStalls armMoves armExchanges FILM-any filmsFrom sendsTag tagCases heldShelf meetsHolder holderCases found-header shelf-page shelf-full finds findCases matchCases unsoundSearch searchCases cases same sameAll sameOutcome wrong
 tested cs = wrong cs
 
 moves-computed : tested moves ≡ []
@@ -108,6 +108,26 @@ armExchanges-computed : tested armExchanges ≡ []
 unfolding tested
 armExchanges-computed = refl {a = []}
 
+tagCases-computed : tested tagCases ≡ []
+unfolding tested
+tagCases-computed = refl {a = []}
+
+holderCases-computed : tested holderCases ≡ []
+unfolding tested
+holderCases-computed = refl {a = []}
+
+findCases-computed : tested findCases ≡ []
+unfolding tested
+findCases-computed = refl {a = []}
+
+matchCases-computed : tested matchCases ≡ []
+unfolding tested
+matchCases-computed = refl {a = []}
+
+searchCases-computed : tested searchCases ≡ []
+unfolding tested
+searchCases-computed = refl {a = []}
+
 -- ---- the test says what it should: each row is an equation
 
 same-true : (xs ys : List ℕ) → same xs ys ≡ true → xs ≡ ys
@@ -184,12 +204,13 @@ both : {cs ds : List Case} → AllHold cs → AllHold ds → AllHold (cs ++ ds)
 both none h = h
 both (one e g) h = one e (both g h)
 
--- P1 to P12, READ all, the errors that were shipped, a row for each house number, step and command, the last shelf, the empty shelves, what a drive takes, and the arm
+-- P1 to P12, READ all, the errors that were shipped, a row for each house number, step and command, the last shelf, the empty shelves, what a drive takes, the arm, and
+-- searches
 pub cases-hold : AllHold cases
 unfolding cases
 cases-hold =
     both
-    (both (both (both (both (both (both (both (both (both (both (both (both (both (both (both (both (both (both (both (both (hold moves moves-computed)
+    (both (both (both (both (both (both (both (both (both (both (both (both (both (both (both (both (both (both (both (both (both (both (both (both (both (hold moves moves-computed)
     (hold exchanges exchanges-computed))
     (hold cuts cuts-computed))
     (hold readAll readAll-computed))
@@ -210,4 +231,9 @@ cases-hold =
     (hold fitExchanges fitExchanges-computed))
     (hold fitCases fitCases-computed))
     (hold armMoves armMoves-computed))
-    (hold armExchanges armExchanges-computed)
+    (hold armExchanges armExchanges-computed))
+    (hold tagCases tagCases-computed))
+    (hold holderCases holderCases-computed))
+    (hold findCases findCases-computed))
+    (hold matchCases matchCases-computed))
+    (hold searchCases searchCases-computed)

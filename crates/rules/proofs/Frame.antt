@@ -8,13 +8,13 @@ use mathlib.Core.Bool.{true, false}
 use mathlib.Core.List.{List, [], _∷_, _++_, List·Memᴰ, Memᴰ·cast}
 use borrow.Author.Tests.{leb-false}
 use Rattle.rules.specs.Bytes.{byte}
-use Rattle.rules.specs.Tables.{Tables, lent, hosts, unitAt, elementAt, elementSize, unit, holder, Change, OfHead, OfElements, Recount, NewStock, Fill, Sense, Attention, inHead, inElements, change, changes}
+use Rattle.rules.specs.Tables.{Tables, lent, hosts, unitAt, elementAt, elementSize, unit, holder, Change, OfHead, OfElements, OfSearch, Recount, NewStock, Fill, Sense, Attention, inHead, inElements, change, changes}
 use Rattle.rules.specs.Roster.{Slot, roster, placeOf, kindOf, transport}
 use Rattle.rules.specs.Sound.{within}
 use Rattle.rules.specs.Order.{Verdict, Number, Prevented, Done, after, fits, good, check, conflict, other, heldByOther}
 use Rattle.rules.specs.Moves.{openTransport, noPlace, leave, carry, moveOf, move, exchangeOf, exchange}
 use Rattle.rules.specs.Sense.{requestSense}
-use Rattle.rules.specs.Operation.{Operation, TestUnitReady, RequestSense, Reserve, Release, PreventAllow, MoveMedium, ExchangeMedium, ReadElementStatus, ModeSense, Unknown, operation}
+use Rattle.rules.specs.Operation.{Operation, TestUnitReady, RequestSense, Reserve, Release, PreventAllow, MoveMedium, ExchangeMedium, ReadElementStatus, ModeSense, SendVolumeTag, RequestVolumeElementAddress, Unknown, operation}
 use Rattle.rules.specs.Command.{Request, act, steps, blockFits, afterNumbers, judged}
 use Rattle.rules.specs.Histories.{named, namedBy, mixes, joins, Disjoint}
 use Rattle.rules.proofs.Ladder.{on, when-true, never}
@@ -35,6 +35,7 @@ OfAddresses ss N j = (a : ℕ) × List·Memᴰ a N × (kindOf ss a ≢ 0) × OfS
 abbrev pub Mine : List Slot → ℕ → List ℕ → Change → Type 0
 Mine ss h N (OfHead c) = Local (OfHost h) (inHead c)
 Mine ss h N (OfElements c) = Local (OfAddresses ss N) (inElements c)
+Mine ss h N (OfSearch c) = ⊥
 Mine ss h N Recount = ⊥
 
 abbrev pub AllMine : List Slot → ℕ → List ℕ → List Change → Type 0
@@ -46,6 +47,7 @@ own-mine : (ss : List Slot) (h : ℕ) (N : List ℕ) (cs : List Change) → AllO
 own-mine ss h N [] m = tt
 own-mine ss h N (OfHead c ∷ cs) (m, ms) = (m, own-mine ss h N cs ms)
 own-mine ss h N (OfElements c ∷ cs) (m, ms) = absurd m
+own-mine ss h N (OfSearch c ∷ cs) (m, ms) = absurd m
 own-mine ss h N (Recount ∷ cs) (m, ms) = absurd m
 
 -- the changes that a command carries out: of the host's bytes alone, or of all that is its own and then the panel's number
@@ -127,6 +129,7 @@ change-same ss h g T N M n d o (OfElements c) t e l =
     let r : placeOf (roster (t .head)) a ≡ placeOf ss a = ap (λ (zs : List Slot). placeOf zs a) e in
     omega arith)
     (t .elements))
+change-same ss h g T N M n d o (OfSearch c) t e l = absurd l
 change-same ss h g T N M n d o Recount t e l = absurd l
 
 -- the panel's bytes are no host's
@@ -360,6 +363,8 @@ act-kept MoveMedium t h block list o k m = kept-move t h _ o k _ _ _ (here _ _) 
 act-kept ExchangeMedium t h block list o k m = kept-exchange t h _ o k _ _ _ _ (here _ _) (there (here _ _)) (there (there (here _ _)))
 act-kept ReadElementStatus t h block list o k m = absurd (never m)
 act-kept ModeSense t h block list o k m = absurd (never m)
+act-kept SendVolumeTag t h block list o k m = absurd (never m)
+act-kept RequestVolumeElementAddress t h block list o k m = absurd (never m)
 act-kept Unknown t h block list o k m = absurd (never m)
 
 steps-kept : (t : Tables) (h : ℕ) (block list : List ℕ) → 1 ≤ h → h ≤ hosts → mixes block ≡ true → blockFits block ≡ true

@@ -2,13 +2,13 @@
 -- start. Assumes nothing.
 use Prim.Native.Nat.{ℕ, _+_, _-_, _<_}
 use native.Mathlib.Omega.{arith}
-use mathlib.Core.Path.{_≡_, refl, sym, ap, _∙_}
+use mathlib.Core.Path.{_≡_, refl, ap, _∙_}
 use mathlib.Core.Logic.{_≢_}
 use mathlib.Core.Bool.{true}
 use mathlib.Core.List.{List, [], _∷_}
 use lib.ListN.{getD}
 use Rattle.rules.specs.Bytes.{byte}
-use Rattle.rules.specs.Tables.{Tables, Change, OfHead, OfElements, Recount, change, changes}
+use Rattle.rules.specs.Tables.{Tables, Change, OfHead, OfElements, OfSearch, Recount, change, changes}
 use Rattle.rules.specs.Roster.{Range, range, ranges}
 use Rattle.rules.specs.Fitting.{generation, accepts, maskOf, driveTakes}
 use Rattle.rules.specs.Sound.{sound}
@@ -36,6 +36,7 @@ change-given : (c : Change) (t : Tables) → AsGiven t (change c t)
 unfolding change
 change-given (OfHead c) t = record { tags-are = refl; blank-is = refl; generations-are = refl; masks-are = refl }
 change-given (OfElements c) t = record { tags-are = refl; blank-is = refl; generations-are = refl; masks-are = refl }
+change-given (OfSearch c) t = record { tags-are = refl; blank-is = refl; generations-are = refl; masks-are = refl }
 change-given Recount t = record { tags-are = refl; blank-is = refl; generations-are = refl; masks-are = refl }
 
 changes-given : (cs : List Change) (t : Tables) → AsGiven t (changes cs t)

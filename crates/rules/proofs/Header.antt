@@ -15,14 +15,14 @@ use Rattle.rules.specs.Bytes.{byte, word, triple, three, cut}
 use Rattle.rules.specs.Tables.{Tables}
 use Rattle.rules.specs.Roster.{Slot, Range, range, ranges, slots, spread, insert, sorted, roster}
 use Rattle.rules.specs.Ranges.{Each}
-use Rattle.rules.specs.Sound.{sound}
-use Rattle.rules.specs.Listing.{typeCode, keep, ofType, atOrAbove, chosen, chosenBy, descriptor, pageHeader, page, pages, pagesOf, joined, firstAddress, header, headerOf, fitting, returned, listing}
+use Rattle.rules.specs.Listing.{typeCode, keep, ofType, atOrAbove, chosen, chosenOf, chosenBy, descriptor, pageHeader, page, pages, pagesOf, joined, firstAddress, header, headerOf, fitting, returned, listing}
+use Rattle.rules.specs.Search.{found, foundBy}
 use Rattle.rules.proofs.Ladder.{on, when-true, when-false}
-use Rattle.rules.proofs.Ascending.{each-map, sorted-each, Rising, rising-lower, roster-rises, ranges-sound}
+use Rattle.rules.proofs.Ascending.{each-map, sorted-each, Rising, rising-lower}
 
 -- the whole answer: the header and all pages
-unfoldable pub whole : Bool → Tables → List Slot → List ℕ
-whole tagged t ss = headerOf ss (pagesOf tagged t ss) ++ joined (pagesOf tagged t ss)
+unfoldable pub whole : ℕ → Bool → Tables → List Slot → List ℕ
+whole code tagged t ss = headerOf code ss (pagesOf tagged t ss) ++ joined (pagesOf tagged t ss)
 
 -- the second begins with the first
 abbrev pub Begins : List ℕ → List ℕ → Type 0
@@ -62,67 +62,67 @@ fitting-all room (p ∷ ps) h =
 
 -- ---- the header
 
-header-length : (ss : List Slot) (ps : List (List ℕ)) → length (headerOf ss ps) ≡ 8
+header-length : (code : ℕ) (ss : List Slot) (ps : List (List ℕ)) → length (headerOf code ss ps) ≡ 8
 unfolding headerOf header three
-header-length ss ps = refl
+header-length code ss ps = refl
 
 pub record Tells (bytes : List ℕ) (ss : List Slot) (pageBytes : ℕ) : Type 0 where
   pub first : word bytes 0 ≡ firstAddress ss
   pub number : word bytes 2 ≡ length ss
   pub count : triple bytes 5 ≡ pageBytes
 
-returned-tells : (allocation : ℕ) (ss : List Slot) (ps : List (List ℕ)) → 8 ≤ allocation
-    → Tells (returned allocation (headerOf ss ps) ps) ss (length (joined ps))
+returned-tells : (code allocation : ℕ) (ss : List Slot) (ps : List (List ℕ)) → 8 ≤ allocation
+    → Tells (returned allocation (headerOf code ss ps) ps) ss (length (joined ps))
 unfolding returned cut headerOf header three word triple byte
-returned-tells allocation ss ps h =
-    rw (when-false (ltb allocation 8) (take allocation (headerOf ss ps)) (headerOf ss ps ++ fitting (allocation - 8) ps) (le-ltb allocation 8 h))
+returned-tells code allocation ss ps h =
+    rw (when-false (ltb allocation 8) (take allocation (headerOf code ss ps)) (headerOf code ss ps ++ fitting (allocation - 8) ps) (le-ltb allocation 8 h))
     (record { first = omega arith; number = omega arith; count = omega arith })
 
 -- ---- what is returned
 
-returned-begins : (allocation : ℕ) (ss : List Slot) (ps : List (List ℕ))
-    → Begins (returned allocation (headerOf ss ps) ps) (headerOf ss ps ++ joined ps)
+returned-begins : (code allocation : ℕ) (ss : List Slot) (ps : List (List ℕ))
+    → Begins (returned allocation (headerOf code ss ps) ps) (headerOf code ss ps ++ joined ps)
 unfolding returned cut
-returned-begins allocation ss ps =
-    on (λ (x : List ℕ). Begins x (headerOf ss ps ++ joined ps)) (ltb allocation 8)
+returned-begins code allocation ss ps =
+    on (λ (x : List ℕ). Begins x (headerOf code ss ps ++ joined ps)) (ltb allocation 8)
     (λ e.
     let l = ltb-true allocation 8 e in
-    let n = header-length ss ps in
-    rw (length-take-le allocation (headerOf ss ps) (omega arith)) (take-append-le allocation (headerOf ss ps) (joined ps) (omega arith)))
-    (λ e. begins-behind (headerOf ss ps) (fitting (allocation - 8) ps) (joined ps) (fitting-begins (allocation - 8) ps))
+    let n = header-length code ss ps in
+    rw (length-take-le allocation (headerOf code ss ps) (omega arith)) (take-append-le allocation (headerOf code ss ps) (joined ps) (omega arith)))
+    (λ e. begins-behind (headerOf code ss ps) (fitting (allocation - 8) ps) (joined ps) (fitting-begins (allocation - 8) ps))
 
-returned-grows : (allocation more : ℕ) (ss : List Slot) (ps : List (List ℕ)) → allocation ≤ more
-    → Begins (returned allocation (headerOf ss ps) ps) (returned more (headerOf ss ps) ps)
+returned-grows : (code allocation more : ℕ) (ss : List Slot) (ps : List (List ℕ)) → allocation ≤ more
+    → Begins (returned allocation (headerOf code ss ps) ps) (returned more (headerOf code ss ps) ps)
 unfolding returned cut
-returned-grows allocation more ss ps h =
+returned-grows code allocation more ss ps h =
     on (Begins _) (ltb more 8) (λ e. let l = ltb-true more 8 e in rw (short (omega arith)) (below-both l))
     (λ e. let l = ltb-false more 8 e in on (λ (x : List ℕ). Begins x (head ++ fitting (more - 8) ps)) (ltb allocation 8)
     (λ d. let k = ltb-true allocation 8 d in below-one (omega arith))
     (λ d. begins-behind head _ _ (fitting-grows (allocation - 8) (more - 8) ps (omega arith))))
   where
     head : List ℕ
-    head = headerOf ss ps
+    head = headerOf code ss ps
 
     short : allocation < 8 → when (ltb allocation 8) (take allocation head) (head ++ fitting (allocation - 8) ps) ≡ take allocation head
     short l = when-true _ _ _ (lt-ltb allocation 8 l)
 
     length-is : (n : ℕ) → n < 8 → length (take n head) ≡ n
-    length-is n l = length-take-le n head (omega (arith, header-length ss ps))
+    length-is n l = length-take-le n head (omega (arith, header-length code ss ps))
 
     below-both : more < 8 → Begins (take allocation head) (take more head)
     below-both l = rw (length-is allocation (omega arith)) (take-take allocation more head h)
 
     below-one : allocation < 8 → Begins (take allocation head) (head ++ fitting (more - 8) ps)
-    below-one l = rw (length-is allocation l) (take-append-le allocation head _ (omega (arith, header-length ss ps)))
+    below-one l = rw (length-is allocation l) (take-append-le allocation head _ (omega (arith, header-length code ss ps)))
 
-returned-all : (allocation : ℕ) (ss : List Slot) (ps : List (List ℕ)) → length (headerOf ss ps ++ joined ps) ≤ allocation
-    → returned allocation (headerOf ss ps) ps ≡ headerOf ss ps ++ joined ps
+returned-all : (code allocation : ℕ) (ss : List Slot) (ps : List (List ℕ)) → length (headerOf code ss ps ++ joined ps) ≤ allocation
+    → returned allocation (headerOf code ss ps) ps ≡ headerOf code ss ps ++ joined ps
 unfolding returned cut
-returned-all allocation ss ps h =
-    let n = length-append (headerOf ss ps) (joined ps) in
-    let k = header-length ss ps in
-    when-false (ltb allocation 8) (take allocation (headerOf ss ps)) (headerOf ss ps ++ fitting (allocation - 8) ps) (le-ltb allocation 8 (omega arith))
-    ∙ ap (λ (x : List ℕ). headerOf ss ps ++ x) (fitting-all (allocation - 8) ps (omega arith))
+returned-all code allocation ss ps h =
+    let n = length-append (headerOf code ss ps) (joined ps) in
+    let k = header-length code ss ps in
+    when-false (ltb allocation 8) (take allocation (headerOf code ss ps)) (headerOf code ss ps ++ fitting (allocation - 8) ps) (le-ltb allocation 8 (omega arith))
+    ∙ ap (λ (x : List ℕ). headerOf code ss ps ++ x) (fitting-all (allocation - 8) ps (omega arith))
 
 -- ---- each piece ends with the descriptor of an element listed, so what is returned does
 
@@ -219,36 +219,36 @@ fitting-room room (p ∷ ps) =
 
 -- ---- the listing
 
-module _ (tagged : Bool) (t : Tables) (ss : List Slot) where
+module _ (code : ℕ) (tagged : Bool) (t : Tables) (ss : List Slot) where
   -- "first chosen address (0 if none), number chosen, 0, three-byte count of all page bytes", whatever of the pages is returned
-  pub header-tells : (allocation : ℕ) → 8 ≤ allocation → Tells (listing tagged t allocation ss) ss (length (joined (pagesOf tagged t ss)))
+  pub header-tells : (allocation : ℕ) → 8 ≤ allocation → Tells (listing code tagged t allocation ss) ss (length (joined (pagesOf tagged t ss)))
   unfolding listing
-  header-tells allocation h = returned-tells allocation ss (pagesOf tagged t ss) h
+  header-tells allocation h = returned-tells code allocation ss (pagesOf tagged t ss) h
 
   -- "What is returned is always a prefix of the whole answer"
-  pub listing-begins : (allocation : ℕ) → Begins (listing tagged t allocation ss) (whole tagged t ss)
+  pub listing-begins : (allocation : ℕ) → Begins (listing code tagged t allocation ss) (whole code tagged t ss)
   unfolding listing whole
-  listing-begins allocation = returned-begins allocation ss (pagesOf tagged t ss)
+  listing-begins allocation = returned-begins code allocation ss (pagesOf tagged t ss)
 
   -- a larger allocation extends it
-  pub listing-grows : (allocation more : ℕ) → allocation ≤ more → Begins (listing tagged t allocation ss) (listing tagged t more ss)
+  pub listing-grows : (allocation more : ℕ) → allocation ≤ more → Begins (listing code tagged t allocation ss) (listing code tagged t more ss)
   unfolding listing
-  listing-grows allocation more h = returned-grows allocation more ss (pagesOf tagged t ss) h
+  listing-grows allocation more h = returned-grows code allocation more ss (pagesOf tagged t ss) h
 
   -- up to the whole
-  pub listing-all : (allocation : ℕ) → length (whole tagged t ss) ≤ allocation → listing tagged t allocation ss ≡ whole tagged t ss
+  pub listing-all : (allocation : ℕ) → length (whole code tagged t ss) ≤ allocation → listing code tagged t allocation ss ≡ whole code tagged t ss
   unfolding listing whole
-  listing-all allocation h = returned-all allocation ss (pagesOf tagged t ss) h
+  listing-all allocation h = returned-all code allocation ss (pagesOf tagged t ss) h
 
   -- from 8 on, it is the header and the pieces that fit
-  listing-from-8 : (allocation : ℕ) → 8 ≤ allocation
-      → listing tagged t allocation ss ≡ headerOf ss (pagesOf tagged t ss) ++ fitting (allocation - 8) (pagesOf tagged t ss)
+  pub listing-from-8 : (allocation : ℕ) → 8 ≤ allocation
+      → listing code tagged t allocation ss ≡ headerOf code ss (pagesOf tagged t ss) ++ fitting (allocation - 8) (pagesOf tagged t ss)
   unfolding listing returned
   listing-from-8 allocation h = when-false (ltb allocation 8) _ _ (le-ltb allocation 8 h)
 
   -- it is the header alone, or it ends with the descriptor of an element listed
   pub listing-ends : (allocation : ℕ) → 8 ≤ allocation
-      → (listing tagged t allocation ss ≡ headerOf ss (pagesOf tagged t ss)) ⊎ Ends tagged t ss (listing tagged t allocation ss)
+      → (listing code tagged t allocation ss ≡ headerOf code ss (pagesOf tagged t ss)) ⊎ Ends tagged t ss (listing code tagged t allocation ss)
   listing-ends allocation h =
       rw (listing-from-8 allocation h) (join (fitting (allocation - 8) ps) (fitting-ends tagged t ss (allocation - 8) ps (pages-of-end tagged t ss)))
     where
@@ -256,7 +256,7 @@ module _ (tagged : Bool) (t : Tables) (ss : List Slot) where
       ps = pagesOf tagged t ss
 
       head : List ℕ
-      head = headerOf ss (pagesOf tagged t ss)
+      head = headerOf code ss (pagesOf tagged t ss)
 
       join : (xs : List ℕ) → Ended tagged t ss xs → (head ++ xs ≡ head) ⊎ Ends tagged t ss (head ++ xs)
       join xs (inl e) = inl (rw e (append-nil head))
@@ -264,10 +264,10 @@ module _ (tagged : Bool) (t : Tables) (ss : List Slot) where
 
   -- "as many whole descriptors as fit": it is the whole, or one more piece would be longer than the allocation
   pub listing-most : (allocation : ℕ) → 8 ≤ allocation
-      → (listing tagged t allocation ss ≡ whole tagged t ss)
+      → (listing code tagged t allocation ss ≡ whole code tagged t ss)
       ⊎ ((before : List (List ℕ)) × (next : List ℕ) × (after : List (List ℕ)) × (pagesOf tagged t ss ≡ before ++ (next ∷ after))
-      × (listing tagged t allocation ss ≡ headerOf ss (pagesOf tagged t ss) ++ joined before)
-      × (allocation < length (listing tagged t allocation ss) + length next))
+      × (listing code tagged t allocation ss ≡ headerOf code ss (pagesOf tagged t ss) ++ joined before)
+      × (allocation < length (listing code tagged t allocation ss) + length next))
   unfolding whole
   listing-most allocation h =
       rw (listing-from-8 allocation h) (join (fitting (allocation - 8) ps) (fitting-most (allocation - 8) ps))
@@ -276,7 +276,7 @@ module _ (tagged : Bool) (t : Tables) (ss : List Slot) where
       ps = pagesOf tagged t ss
 
       head : List ℕ
-      head = headerOf ss (pagesOf tagged t ss)
+      head = headerOf code ss (pagesOf tagged t ss)
 
       join : (xs : List ℕ) → Most (allocation - 8) ps xs
           → (head ++ xs ≡ head ++ joined ps)
@@ -284,15 +284,15 @@ module _ (tagged : Bool) (t : Tables) (ss : List Slot) where
           × (allocation < length (head ++ xs) + length next))
       join xs (inl e) = inl (ap (λ (x : List ℕ). head ++ x) e)
       join xs (inr (b, n, a, e, d, m)) =
-          inr (b, n, a, e, ap (λ (x : List ℕ). head ++ x) d, omega (arith, length-append head xs, header-length ss ps))
+          inr (b, n, a, e, ap (λ (x : List ℕ). head ++ x) d, omega (arith, length-append head xs, header-length code ss ps))
 
   -- never more than the allocation
-  pub listing-within : (allocation : ℕ) → length (listing tagged t allocation ss) ≤ allocation
+  pub listing-within : (allocation : ℕ) → length (listing code tagged t allocation ss) ≤ allocation
   unfolding listing returned cut
   listing-within allocation =
       let ps = pagesOf tagged t ss in
-      let head = headerOf ss ps in
-      let n = header-length ss ps in
+      let head = headerOf code ss ps in
+      let n = header-length code ss ps in
       on (λ (xs : List ℕ). length xs ≤ allocation) (ltb allocation 8)
       (λ e. let l = ltb-true allocation 8 e in omega (arith, length-take-le allocation head (omega arith)))
       (λ e. let l = ltb-false allocation 8 e in omega (arith, length-append head (fitting (allocation - 8) ps), fitting-room (allocation - 8) ps))
@@ -400,33 +400,44 @@ once-roster head =
     (each-map (OfOne (ranges head)) (OfOne (sorted (ranges head))) (λ r o a p. sorted-hits _ (ranges head) ∙ o a p) (sorted (ranges head))
     (sorted-each (OfOne (ranges head)) (ranges head) (one-each head)))
 
-once-chosen : (t : Tables) (block : List ℕ) → Once (sorted (ranges (t .head))) (chosenBy t block)
-unfolding chosenBy chosen
-once-chosen t block =
-    once-take _ (word block 4) _ (once-keep _ (atOrAbove (word block 2)) _ (once-keep _ (ofType (typeCode block)) (roster (t .head)) (once-roster (t .head))))
+once-chosen : (head : List ℕ) (ss : List Slot) (block : List ℕ) → Once (sorted (ranges head)) ss → Once (sorted (ranges head)) (chosenOf ss block)
+unfolding chosenOf chosen
+once-chosen head ss block o = once-take _ (word block 4) _ (once-keep _ (atOrAbove (word block 2)) _ (once-keep _ (ofType (typeCode block)) ss o))
+
+once-all : (t : Tables) (block : List ℕ) → Once (sorted (ranges (t .head))) (chosenBy t block)
+unfolding chosenBy
+once-all t block = once-chosen (t .head) _ block (once-roster (t .head))
+
+once-found : (t : Tables) (block : List ℕ) → Once (sorted (ranges (t .head))) (foundBy t block)
+unfolding foundBy
+once-found t block = once-chosen (t .head) _ block (once-keep _ (found t) _ (once-roster (t .head)))
 
 -- the whole answer has a descriptor for each element that its header counts
-pub descriptors-told : (tagged : Bool) (t : Tables) (block : List ℕ) → length (pagesOf tagged t (chosenBy t block)) ≡ length (chosenBy t block)
+pieces-once : (tagged : Bool) (t : Tables) (ss : List Slot) → Once (sorted (ranges (t .head))) ss → length (pagesOf tagged t ss) ≡ length ss
 unfolding pagesOf
-descriptors-told tagged t block =
-    pages-pieces tagged t (sorted (ranges (t .head))) (chosenBy t block) ∙ once-hits (sorted (ranges (t .head))) (chosenBy t block) (once-chosen t block)
+pieces-once tagged t ss o = pages-pieces tagged t (sorted (ranges (t .head))) ss ∙ once-hits (sorted (ranges (t .head))) ss o
+
+pub descriptors-told : (tagged : Bool) (t : Tables) (block : List ℕ) → length (pagesOf tagged t (chosenBy t block)) ≡ length (chosenBy t block)
+descriptors-told tagged t block = pieces-once tagged t _ (once-all t block)
+
+pub descriptors-found : (tagged : Bool) (t : Tables) (block : List ℕ) → length (pagesOf tagged t (foundBy t block)) ≡ length (foundBy t block)
+descriptors-found tagged t block = pieces-once tagged t _ (once-found t block)
 
 -- ---- "ascending"
 
-rising-keep : (a : ℕ) (f : Slot → Bool) (ss : List Slot) → Rising a ss → Rising a (keep f ss)
+pub rising-keep : (a : ℕ) (f : Slot → Bool) (ss : List Slot) → Rising a ss → Rising a (keep f ss)
 unfolding keep
 rising-keep a f [] r = tt
 rising-keep a f (s ∷ ss) r =
     on (Rising a) (f s) (λ e. (r .0, rising-keep (suc (s .address)) f ss (r .1)))
     (λ e. rising-lower a (suc (s .address)) (keep f ss) (omega (arith, r .0)) (rising-keep (suc (s .address)) f ss (r .1)))
 
-rising-take : (a n : ℕ) (ss : List Slot) → Rising a ss → Rising a (take n ss)
+pub rising-take : (a n : ℕ) (ss : List Slot) → Rising a ss → Rising a (take n ss)
 rising-take a zero ss r = tt
 rising-take a (suc n) [] r = tt
 rising-take a (suc n) (s ∷ ss) r = (r .0, rising-take (suc (s .address)) n ss (r .1))
 
-pub chosen-rises : (t : Tables) (block : List ℕ) → sound t ≡ true → Rising 0 (chosenBy t block)
-unfolding chosenBy chosen
-chosen-rises t block e =
-    rising-take 0 (word block 4) _
-    (rising-keep 0 (atOrAbove (word block 2)) _ (rising-keep 0 (ofType (typeCode block)) (roster (t .head)) (roster-rises (t .head) (ranges-sound t e))))
+-- what a block chooses of elements that rise
+pub chosen-rises : (a : ℕ) (ss : List Slot) (block : List ℕ) → Rising a ss → Rising a (chosenOf ss block)
+unfolding chosenOf chosen
+chosen-rises a ss block r = rising-take a (word block 4) _ (rising-keep a (atOrAbove (word block 2)) _ (rising-keep a (ofType (typeCode block)) ss r))

@@ -4,11 +4,13 @@ use Prim.Native.Nat.{ℕ, _-_, _<_, _≤_}
 use native.Mathlib.Omega.{arith}
 use mathlib.Core.Path.{_≡_, sym, _∙_}
 use mathlib.Core.Logic.{_≢_}
+use mathlib.Core.Bool.{true}
 use mathlib.Core.List.{List}
 use lib.ListN.{length}
 use Rattle.rules.specs.Bytes.{byte}
-use Rattle.rules.specs.Tables.{Tables, lent, hosts, unitAt, panelAt, volumes, unit, panel, volume, holder, emptyShelves, shown, HeadChange, NewSense, NewAttention, NewForAll, NewUnit, NewMask, ElementChange, NewStock, NewHolds, NewlyFree, Change, OfHead, OfElements, Recount, inHead, inElements, change, changes}
+use Rattle.rules.specs.Tables.{Tables, lent, searching, hosts, unitAt, panelAt, volumes, unit, panel, volume, holder, emptyShelves, shown, HeadChange, NewSense, NewAttention, NewForAll, NewUnit, NewMask, ElementChange, NewStock, NewHolds, NewlyFree, Change, OfHead, OfElements, OfSearch, Recount, inHead, inElements, inSearch, change, changes}
 use Rattle.rules.specs.Roster.{range, roster, kindAt, port}
+use Rattle.rules.specs.Sound.{searchSound}
 use Rattle.rules.specs.Order.{Verdict, Number, Prevented, Done}
 use Rattle.rules.proofs.Places.{SameRanges, roster-same, roster-placed}
 use Rattle.rules.proofs.HeadFields.{Off, sensed-else, attended-else, announced-else, unitHeld-else, unitHeld-unit, masked-else}
@@ -16,7 +18,7 @@ use Rattle.rules.proofs.ElementFields.{HoldsAlone, volume-alone, held-a
 use Rattle.rules.proofs.Panel.{shelves-same, shelves-elsewhere, shown-else, shown-panel, panel-same}
 use Rattle.rules.proofs.Soundness.{SenseFits, AttentionFits, HeadFits, RestFits, StockFits, HoldFits, ElementsFit, DrivesFit, Sound, head-ranges}
 use Rattle.rules.proofs.KeepHead.{sensed-fits, attended-fits, announced-fits, unitHeld-fits, masked-fits, shown-fits}
-use Rattle.rules.proofs.KeepDrives.{drives-head, drives-held, drives-filled, fits-port}
+use Rattle.rules.proofs.KeepDrives.{drives-head, drives-held, drives-searched, drives-filled, fits-port}
 use Rattle.rules.proofs.KeepElements.{place-long, fill-fits, held-fits, freed-fits, unit-fits}
 
 -- what a change needs of the tables, that it leave them sound
@@ -38,6 +40,7 @@ ElementFit t (NewlyFree w) = Unit {0}
 abbrev pub Fit : Tables → Change → Type 0
 Fit t (OfHead c) = HeadFit t c
 Fit t (OfElements c) = ElementFit t c
+Fit t (OfSearch c) = searchSound (inSearch c (t .rest .search)) ≡ true
 Fit t Recount = Unit {0}
 
 -- all that sound tables are, whatever number the panel shows
@@ -158,6 +161,19 @@ element-change-sound (NewlyFree w) t x s =
     elements-sound t _ s (freed-fits _ _ _ w _ (s .elements-fit)) (drives-held t _ (s .drives-fit) _ (freed-alone w (t .elements)))
     (holds-counted t _ (freed-alone w (t .elements)))
 
+-- ---- the search alone changes
+
+searched-sound : (t : Tables) (search : List ℕ) → Sound t → searchSound search ≡ true → Sound (lent (t .head) (t .elements) (searching (t .rest) search))
+searched-sound t search s f =
+    let r = s .rest-fits in
+    record {
+      head-fits = s .head-fits;
+      rest-fits = record { labels-fit = r .labels-fit; generations-fit = r .generations-fit; search-fits = f };
+      elements-fit = s .elements-fit;
+      panel-true = s .panel-true;
+      drives-fit = drives-searched t _ (s .drives-fit) search;
+    }
+
 -- ---- the panel's number, counted again
 
 pub recounted-sound : (t : Tables) → Fitting t → Sound (change Recount t)
@@ -173,6 +189,7 @@ pub change-sound : (c : Change) (t : Tables) → Fit t c → Sound t → Sound (
 unfolding change
 change-sound (OfHead c) t f s = head-change-sound c t f s
 change-sound (OfElements c) t f s = element-change-sound c t f s
+change-sound (OfSearch c) t f s = searched-sound t _ s f
 change-sound Recount t f s = recounted-sound t (sound-fits t s)
 
 -- what a verdict leaves is sound

@@ -10,23 +10,26 @@ use lib.Dec.{eqb}
 use borrow.Author.Tests.{eqb-true, eqb-false, leb-false}
 use Rattle.rules.specs.Choice.{when, anyFrom}
 use Rattle.rules.specs.Bytes.{byte, word}
-use Rattle.rules.specs.Tables.{Tables, lent, hosts, unitAt, places, volumes, unit, attention, attentionq, volume, holder, sensed, NewSense, Change, Recount, Sense, Attention, HoldUnit, Prevent, Hold, Free, Under, Every, inHead, inElements, change, changes}
+use Rattle.rules.specs.Tables.{Tables, lent, hosts, unitAt, places, volumes, unit, attention, attentionq, volume, holder, sensed, NewSense, Change, Recount, Sense, Attention, HoldUnit, Prevent, Hold, Free, Under, Every, Seek, GoOn, inHead, inElements, inSearch, change, changes}
 use Rattle.rules.specs.Roster.{Slot, range, roster, placeOf}
 use Rattle.rules.specs.Sound.{within}
-use Rattle.rules.specs.Operation.{Operation, TestUnitReady, RequestSense, Reserve, Release, PreventAllow, MoveMedium, ExchangeMedium, ReadElementStatus, ModeSense, Unknown, operation}
+use Rattle.rules.specs.Operation.{Operation, TestUnitReady, RequestSense, Reserve, Release, PreventAllow, MoveMedium, ExchangeMedium, ReadElementStatus, ModeSense, SendVolumeTag, RequestVolumeElementAddress, Unknown, operation}
 use Rattle.rules.specs.Order.{Verdict, Number, Prevented, Done, InvalidOperation, fits, good, check, conflict, other, volumeOf, sourceOf}
 use Rattle.rules.specs.Moves.{noPlace, leave, shelfOf, carry, move, exchange}
 use Rattle.rules.specs.Holds.{holdsFrom, granted, releaseUnit, release, prevent, descriptors}
 use Rattle.rules.specs.Sense.{requestSense}
 use Rattle.rules.specs.Listing.{readStatus}
+use Rattle.rules.specs.Search.{searchFor, sendTag, requestAddress}
 use Rattle.rules.specs.Mode.{modeSense}
+use Rattle.rules.specs.Form.{fault}
 use Rattle.rules.specs.Command.{Request, act, steps, afterNumbers, judged}
 use Rattle.rules.proofs.Ladder.{on, either, any-nowhere, all-cons, all-nil, ne-differ}
-use Rattle.rules.proofs.Walks.{Refusals, Passed, Moving, Exchanging, telling, refused-by, steps-by, move-by, exchange-by, reserve-by, release-by}
+use Rattle.rules.proofs.Walks.{Refusals, Passed, Moving, Exchanging, telling, refused-by, steps-shown-by, move-by, exchange-by, reserve-by, release-by, tag-by}
 use Rattle.rules.proofs.Places.{roster-same}
 use Rattle.rules.proofs.HeadFields.{sensed-else}
 use Rattle.rules.proofs.Soundness.{SenseFits, ShelfOrNone, HoldFits, ElementsFit, DrivesFit, Sound, places-is, within-low, within-high}
 use Rattle.rules.proofs.Keep.{head-change-fits, elements-fitting, recounted-sound, change-sound, Sounds}
+use Rattle.rules.proofs.KeepSearch.{search-length, search-begun, search-gone-on}
 use Rattle.rules.proofs.KeepMoves.{Stands, stands-of, moved-fits, exchanged-fits, moved-suits, exchanged-suits}
 
 -- held by another: not by nobody, not by the host itself
@@ -86,6 +89,17 @@ module _ (t : Tables) (s : Sound t) (h : ℕ) (l : 1 ≤ h) (m : h ≤ hosts) wh
   prevent-sound : (block : List ℕ) → Sounds t (prevent t h block)
   unfolding prevent good changes
   prevent-sound block = change-sound (Prevent _) _ tt cleared
+
+  -- ---- SEND VOLUME TAG and REQUEST VOLUME ELEMENT ADDRESS: the search changes
+
+  sendTag-sound : (block list : List ℕ) → eqb (fault SendVolumeTag (t .head) block list) 0 ≡ true → Sounds t (sendTag t h block list)
+  sendTag-sound block list f =
+      tag-by (Sounds t) t h refusals-sound block list
+      (λ e. unfold good changes in change-sound (Seek (searchFor block list)) _ (unfold change inSearch in search-begun (t .rest .search) block list (search-length _ (s .rest-fits .search-fits)) e (t .head) f) cleared)
+
+  requestAddress-sound : (block : List ℕ) → Sounds t (requestAddress t h block)
+  unfolding requestAddress changes
+  requestAddress-sound block = change-sound (GoOn _) _ (unfold change inSearch in search-gone-on t s block) cleared
 
   -- ---- MOVE and EXCHANGE: the elements change, the host's sense is cleared, and the empty shelves are counted again
 
@@ -203,24 +217,26 @@ module _ (t : Tables) (s : Sound t) (h : ℕ) (l : 1 ≤ h) (m : h ≤ hosts) wh
           (λ _. change-sound (Free (Every h)) _ tt (change-sound (HoldUnit 0) _ (omega arith, λ p i n. absurd (n refl)) (cleared t s h l m)))
           (λ _. change-sound (Free (Every h)) _ tt (cleared t s h l m))
 
-  act-sound : (op : Operation) (block list : List ℕ) → Passed op t h → Sounds t (act op t h block list)
+  act-sound : (op : Operation) (block list : List ℕ) → Passed op t h → eqb (fault op (t .head) block list) 0 ≡ true → Sounds t (act op t h block list)
   unfolding act
-  act-sound TestUnitReady block list e = ready-sound t s h l m
-  act-sound RequestSense block list e = requestSense-sound t s h l m block
-  act-sound Reserve block list e =
+  act-sound TestUnitReady block list e f = ready-sound t s h l m
+  act-sound RequestSense block list e f = requestSense-sound t s h l m block
+  act-sound Reserve block list e f =
       reserve-by (Sounds t) t h (refusals-sound t s h l m) block list unit-sound (granted-sound (byte block 2) list e)
-  act-sound Release block list e = release-sound block
-  act-sound PreventAllow block list e = prevent-sound t s h l m block
-  act-sound MoveMedium block list e = move-sound t s h l m block
-  act-sound ExchangeMedium block list e = exchange-sound t s h l m block
-  act-sound ReadElementStatus block list e = readStatus-sound t s h l m block
-  act-sound ModeSense block list e = modeSense-sound t s h l m block
-  act-sound Unknown block list e = refusals-sound t s h l m .refuses InvalidOperation
+  act-sound Release block list e f = release-sound block
+  act-sound PreventAllow block list e f = prevent-sound t s h l m block
+  act-sound MoveMedium block list e f = move-sound t s h l m block
+  act-sound ExchangeMedium block list e f = exchange-sound t s h l m block
+  act-sound ReadElementStatus block list e f = readStatus-sound t s h l m block
+  act-sound ModeSense block list e f = modeSense-sound t s h l m block
+  act-sound SendVolumeTag block list e f = sendTag-sound t s h l m block list f
+  act-sound RequestVolumeElementAddress block list e f = requestAddress-sound t s h l m block
+  act-sound Unknown block list e f = refusals-sound t s h l m .refuses InvalidOperation
 
   steps-sound : (block parameters : List ℕ) → Sounds t (steps t h block parameters)
   unfolding steps
   steps-sound block parameters =
-      steps-by (Sounds t) t h (refusals-sound t s h l m) (operation block) block parameters (act-sound (operation block) block parameters)
+      steps-shown-by (Sounds t) t h (refusals-sound t s h l m) (operation block) block parameters (act-sound (operation block) block parameters)
 
 fits-sound : (t : Tables) (buffer : List ℕ) (v : Verdict) → Sounds t v → Sounds t (fits buffer v)
 unfolding fits

@@ -1,23 +1,23 @@
 -- No drive gets a volume that it does not take: each write leaves the drives suited, where what it puts into one fits. Assumes nothing.
-use Prim.Native.Nat.{ℕ, _+_, _*_, _<_, _≤_}
+use Prim.Native.Nat.{ℕ, _+_, _<_, _≤_}
 use native.Mathlib.Omega.{arith}
 use mathlib.Core.Path.{_≡_, refl, sym, _∙_}
 use mathlib.Core.Logic.{_≢_}
 use mathlib.Core.Bool.{Bool, true, false, not}
-use mathlib.Core.List.{List, [], _∷_}
+use mathlib.Core.List.{List}
 use lib.ListN.{length}
 use lib.Dec.{eqb}
-use borrow.Author.Tests.{eqb-true, eq-eqb, eqb-false, ne-eqb}
-use Rattle.rules.specs.Choice.{when, anyOf, allOf}
-use Rattle.rules.specs.Tables.{Tables, Rest, lent, elementAt, elementSize, volume, filled}
+use borrow.Author.Tests.{eqb-true, eq-eqb}
+use Rattle.rules.specs.Choice.{when, allOf}
+use Rattle.rules.specs.Tables.{Tables, lent, searching, elementAt, elementSize, volume, filled}
 use Rattle.rules.specs.Roster.{Range, range, ranges, roster, kindAt, kindOf, placeOf, drive, port}
 use Rattle.rules.specs.Order.{volumeOf}
 use Rattle.rules.specs.Fitting.{generation, maskOf, driveTakes, unfit, suited}
 use Rattle.rules.specs.Sound.{rangesSound}
 use Rattle.rules.proofs.Ladder.{either, any-cases, any-by-first, any-by-rest, any-nil, never}
-use Rattle.rules.proofs.Places.{SameRanges, range-same, roster-same, place-in, kind-in, place-apart}
+use Rattle.rules.proofs.Places.{SameRanges, range-same, roster-same, kind-in, place-apart}
 use Rattle.rules.proofs.Typed.{drive-counted}
-use Rattle.rules.proofs.ElementFields.{volume-else, filled-volume, filled-length, HoldsAlone, volume-alone}
+use Rattle.rules.proofs.ElementFields.{volume-else, filled-volume, HoldsAlone, volume-alone}
 use Rattle.rules.proofs.Soundness.{DrivesFit}
 
 -- ---- an element that is suited, as a plain fact
@@ -63,6 +63,11 @@ module _ (t : Tables) (d : Range) (f : DrivesFit t d) where
         each-suited = λ k h.
             unfold suited driveTakes maskOf generation volumeOf in rw (volume-alone (t .elements) es alone (placeOf (roster (t .head)) (d .first + k))) (f .each-suited k h);
       }
+
+  -- the search alone
+  pub drives-searched : (search : List ℕ) → DrivesFit (lent (t .head) (t .elements) (searching (t .rest) search)) d
+  drives-searched search =
+      record { masks-length = f .masks-length; each-suited = λ k h. unfold suited driveTakes maskOf generation volumeOf in f .each-suited k h }
 
   -- a place filled
   pub drives-filled : (p v s m : ℕ) → elementAt p + elementSize ≤ length (t .elements)

@@ -7,15 +7,17 @@ use mathlib.Core.Bool.{false}
 use mathlib.Core.List.{List, [], _∷_}
 use lib.Dec.{eqb}
 use borrow.Author.Tests.{eqb-false, ltb-false}
-use Rattle.rules.specs.Tables.{Tables, hosts, places, volumes, volume, Sense, Attention, Announce, HoldUnit, Prevent, Fill, Free, Anyone, changes}
+use Rattle.rules.specs.Tables.{Tables, hosts, places, volumes, volume, Sense, Attention, Announce, HoldUnit, Prevent, Fill, Free, Anyone, changes, Seek, inSearch, change}
 use Rattle.rules.specs.Roster.{Slot, roster, placeOf, kindOf, port}
 use Rattle.rules.specs.Sound.{sound}
 use Rattle.rules.specs.Order.{Verdict}
+use Rattle.rules.specs.Search.{noSearch}
 use Rattle.rules.specs.Events.{noPort, atPort, present, wrongVolume, done, importing, exporting, restartedFrom, resetting}
 use Rattle.rules.proofs.Ladder.{on, any-first, any-rest, any-nowhere, differ-false}
 use Rattle.rules.proofs.Places.{place-in, kind-in}
 use Rattle.rules.proofs.Soundness.{StockFits, Sound, places-is}
 use Rattle.rules.proofs.KeepElements.{empty-fits}
+use Rattle.rules.proofs.KeepSearch.{search-cleared}
 use Rattle.rules.proofs.Keep.{Fit, change-sound, Sounds}
 use Rattle.rules.proofs.KeepCommands.{no-sense}
 
@@ -76,11 +78,15 @@ restarted-sound (suc n) h t l m s =
     restarted-sound n (suc h) _ (omega arith) (omega arith)
     (change-sound (Attention h 0x29 0x00) _ (l, omega arith, omega arith) (change-sound (Sense h 0 0 0) t (l, omega arith, no-sense) s))
 
+forgetting : (t : Tables) → Sound t → Sound (change (Seek noSearch) t)
+unfolding inSearch
+forgetting t s = change-sound (Seek noSearch) t (search-cleared (t .rest .search) (s .rest-fits .search-fits)) s
+
 pub resetting-sound : (t : Tables) → Sound t → Sounds t (resetting t)
 unfolding resetting done changes
 resetting-sound t s =
     on (Sounds t) (sound t)
     (λ _.
     restarted-sound hosts 1 _ (omega arith) (omega arith)
-    (change-sound (Prevent 0) _ tt (change-sound (Free Anyone) _ tt (change-sound (HoldUnit 0) t (omega arith, λ p i n. absurd (n refl)) s))))
+    (change-sound (Prevent 0) _ tt (forgetting _ (change-sound (Free Anyone) _ tt (change-sound (HoldUnit 0) t (omega arith, λ p i n. absurd (n refl)) s)))))
     (λ _. tt)

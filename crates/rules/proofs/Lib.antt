@@ -18,6 +18,7 @@ pub mod Arms
 pub mod KeepHead
 pub mod KeepElements
 pub mod KeepDrives
+pub mod KeepSearch
 pub mod Keep
 pub mod KeepMoves
 pub mod KeepCommands
@@ -39,6 +40,8 @@ pub mod Loops
 pub mod Header
 pub mod Ranged
 pub mod Given
+pub mod SearchKept
+pub mod Finds
 pub mod Answerless
 pub mod Replaying
 pub mod Logs

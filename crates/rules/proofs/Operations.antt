@@ -2,7 +2,7 @@
 use Prim.Native.Nat.{ℕ}
 use mathlib.Core.Path.{_≡_}
 use borrow.Author.Tests.{eqb-true}
-use Rattle.rules.specs.Operation.{Operation, TestUnitReady, RequestSense, Reserve, Release, PreventAllow, MoveMedium, ExchangeMedium, ReadElementStatus, ModeSense, Unknown, TEST-UNIT-READY, REQUEST-SENSE, RESERVE, RELEASE, PREVENT-ALLOW, MOVE-MEDIUM, EXCHANGE-MEDIUM, READ-ELEMENT-STATUS, MODE-SENSE, decoded}
+use Rattle.rules.specs.Operation.{Operation, TestUnitReady, RequestSense, Reserve, Release, PreventAllow, MoveMedium, ExchangeMedium, ReadElementStatus, ModeSense, SendVolumeTag, RequestVolumeElementAddress, Unknown, TEST-UNIT-READY, REQUEST-SENSE, RESERVE, RELEASE, PREVENT-ALLOW, MOVE-MEDIUM, EXCHANGE-MEDIUM, READ-ELEMENT-STATUS, MODE-SENSE, SEND-VOLUME-TAG, REQUEST-VOLUME-ELEMENT-ADDRESS, decoded}
 use Rattle.rules.proofs.Ladder.{on}
 
 abbrev pub First : Operation → ℕ → Type 0
@@ -15,6 +15,8 @@ First MoveMedium b = b ≡ MOVE-MEDIUM
 First ExchangeMedium b = b ≡ EXCHANGE-MEDIUM
 First ReadElementStatus b = b ≡ READ-ELEMENT-STATUS
 First ModeSense b = b ≡ MODE-SENSE
+First SendVolumeTag b = b ≡ SEND-VOLUME-TAG
+First RequestVolumeElementAddress b = b ≡ REQUEST-VOLUME-ELEMENT-ADDRESS
 First Unknown b = Unit {0}
 
 pub decoded-first : (b : ℕ) → First (decoded b) b
@@ -29,4 +31,6 @@ decoded-first b =
     λ _. on F _ (λ e. eqb-true b MOVE-MEDIUM e)
     λ _. on F _ (λ e. eqb-true b EXCHANGE-MEDIUM e)
     λ _. on F _ (λ e. eqb-true b READ-ELEMENT-STATUS e)
-    λ _. on F _ (λ e. eqb-true b MODE-SENSE e) λ _. tt
+    λ _. on F _ (λ e. eqb-true b MODE-SENSE e)
+    λ _. on F _ (λ e. eqb-true b SEND-VOLUME-TAG e)
+    λ _. on F _ (λ e. eqb-true b REQUEST-VOLUME-ELEMENT-ADDRESS e) λ _. tt

@@ -4,15 +4,16 @@ use native.Mathlib.Omega.{arith}
 use mathlib.Core.Path.{_≡_, refl, _∙_}
 use mathlib.Core.List.{List, [], _∷_}
 use Rattle.rules.specs.Bytes.{byte}
-use Rattle.rules.specs.Tables.{Tables, hosts, Change, OfHead, OfElements, Recount, inHead, change, changes}
+use Rattle.rules.specs.Tables.{Tables, hosts, Change, OfHead, OfElements, OfSearch, Recount, inHead, change, changes}
 use Rattle.rules.specs.Roster.{Slot, ranges, roster}
 use Rattle.rules.specs.Sound.{sound, within}
-use Rattle.rules.specs.Operation.{Operation, TestUnitReady, RequestSense, Reserve, Release, PreventAllow, MoveMedium, ExchangeMedium, ReadElementStatus, ModeSense, Unknown, operation}
+use Rattle.rules.specs.Operation.{Operation, TestUnitReady, RequestSense, Reserve, Release, PreventAllow, MoveMedium, ExchangeMedium, ReadElementStatus, ModeSense, SendVolumeTag, RequestVolumeElementAddress, Unknown, operation}
 use Rattle.rules.specs.Order.{Verdict, Number, Prevented, Done, InvalidOperation, after, fits, good, check, conflict}
 use Rattle.rules.specs.Moves.{leave, carry, move, exchange}
 use Rattle.rules.specs.Holds.{holdsFrom, granted, releaseUnit, prevent}
 use Rattle.rules.specs.Sense.{requestSense}
 use Rattle.rules.specs.Listing.{readStatus}
+use Rattle.rules.specs.Search.{requestAddress}
 use Rattle.rules.specs.Mode.{modeSense}
 use Rattle.rules.specs.Events.{atPort, done, importing, exporting, restartedFrom, resetting}
 use Rattle.rules.specs.Command.{Call, Command, Import, Export, Reset, act, steps, afterNumbers, judged, judge, verdict}
@@ -21,7 +22,7 @@ use Rattle.rules.proofs.Ladder.{on}
 use Rattle.rules.proofs.Places.{ranges-same}
 use Rattle.rules.proofs.Panel.{shown-else}
 use Rattle.rules.proofs.Soundness.{within-low, within-high}
-use Rattle.rules.proofs.Walks.{Refusals, telling, refused-by, steps-by, move-by, exchange-by, reserve-by, release-by}
+use Rattle.rules.proofs.Walks.{Refusals, telling, refused-by, steps-by, move-by, exchange-by, reserve-by, release-by, tag-by}
 use Rattle.rules.proofs.Keep.{OfSome, ranges-kept}
 
 -- ---- changes that leave the ranges
@@ -29,6 +30,7 @@ use Rattle.rules.proofs.Keep.{OfSome, ranges-kept}
 abbrev Aside : Change → Type 0
 Aside (OfHead c) = OfSome c
 Aside (OfElements c) = Unit {0}
+Aside (OfSearch c) = Unit {0}
 Aside Recount = Unit {0}
 
 abbrev AllAside : List Change → Type 0
@@ -39,6 +41,7 @@ change-ranges : (c : Change) (t : Tables) → Aside c → ranges (change c t .he
 unfolding change
 change-ranges (OfHead c) t a = ranges-same (t .head) (inHead c (t .head)) (ranges-kept c (t .head) a)
 change-ranges (OfElements c) t a = refl
+change-ranges (OfSearch c) t a = refl
 change-ranges Recount t a = ranges-same (t .head) _ (λ j i. shown-else (t .head) _ j (λ m l. omega arith))
 
 changes-ranges : (cs : List Change) (t : Tables) → AllAside cs → ranges (changes cs t .head) ≡ ranges (t .head)
@@ -76,7 +79,7 @@ module _ (t : Tables) (h : ℕ) (l : (1 ≤ h) × (h ≤ hosts)) where
   refusals = record { refuses = refused-by Ranged h (λ a q. (l, tt)); conflicts = (l, tt); tells = (l, (l, tt)) }
 
   ranged-act : (op : Operation) (block list : List ℕ) → Ranged (act op t h block list)
-  unfolding act requestSense readStatus modeSense prevent move exchange granted releaseUnit
+  unfolding act requestSense readStatus requestAddress modeSense prevent move exchange granted releaseUnit
   ranged-act TestUnitReady block list = ranged-good [] tt
   ranged-act RequestSense block list = on Ranged _ (λ _. (l, tt)) (λ _. (l, tt))
   ranged-act Reserve block list =
@@ -89,6 +92,8 @@ module _ (t : Tables) (h : ℕ) (l : (1 ≤ h) × (h ≤ hosts)) where
       exchange-by Ranged t h refusals _ _ _ _ (λ _. unfold leave carry in ranged-good _ (tt, (tt, (tt, (tt, (tt, tt))))))
   ranged-act ReadElementStatus block list = (l, tt)
   ranged-act ModeSense block list = (l, tt)
+  ranged-act SendVolumeTag block list = tag-by Ranged t h refusals block list (λ _. ranged-good _ (tt, tt))
+  ranged-act RequestVolumeElementAddress block list = (l, (tt, tt))
   ranged-act Unknown block list = refusals .refuses InvalidOperation
 
   ranged-steps : (block list : List ℕ) → Ranged (steps t h block list)
@@ -122,7 +127,7 @@ ranged-verdict t (Command r) =
     (λ _. tt)
 ranged-verdict t (Import a v) = ranged-port t a _ (on Ranged _ (λ _. tt) (λ _. on Ranged _ (λ _. tt) (λ _. (tt, (tt, tt)))))
 ranged-verdict t (Export a) = ranged-port t a _ (on Ranged _ (λ _. tt) (λ _. (tt, (tt, tt))))
-ranged-verdict t Reset = on Ranged (sound t) (λ _. (tt, (tt, (tt, aside-restarted hosts 1 (omega arith) (omega arith))))) (λ _. tt)
+ranged-verdict t Reset = on Ranged (sound t) (λ _. (tt, (tt, (tt, (tt, aside-restarted hosts 1 (omega arith) (omega arith)))))) (λ _. tt)
 
 pub next-ranges : (t : Tables) (c : Call) → ranges (next t c .head) ≡ ranges (t .head)
 unfolding next

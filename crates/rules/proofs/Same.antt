@@ -13,7 +13,7 @@ use Rattle.rules.specs.Order.{Verdict, other, heldByOther, volumeOf, sou
 use Rattle.rules.specs.Fitting.{maskOf, driveTakes, unfit}
 use Rattle.rules.specs.Moves.{openTransport, transportUsed, noTransport, noPlace, leave, shelfOf, carry, moveOf, move, exchangeOf, exchange}
 use Rattle.rules.specs.Sense.{tellsAttention, requestSense}
-use Rattle.rules.specs.Operation.{Operation, TestUnitReady, RequestSense, Reserve, Release, PreventAllow, MoveMedium, ExchangeMedium, ReadElementStatus, ModeSense, Unknown, operation}
+use Rattle.rules.specs.Operation.{Operation, TestUnitReady, RequestSense, Reserve, Release, PreventAllow, MoveMedium, ExchangeMedium, ReadElementStatus, ModeSense, SendVolumeTag, RequestVolumeElementAddress, Unknown, operation}
 use Rattle.rules.specs.Form.{ownFault, fault, formed}
 use Rattle.rules.specs.Command.{Request, act, admitted, stepsOf, steps, blockFits, afterNumbers, judged}
 use Rattle.rules.specs.Histories.{named, namedBy, mixes, joins}
@@ -203,6 +203,8 @@ module _ (h : ℕ) (k : h ≤ hosts) (block : List ℕ) (t u : Tables) where
   stepsOf-is ExchangeMedium list m s = guarded-is h _ _ t u k s _ _ (cc (exchange-is s))
   stepsOf-is ReadElementStatus list m s = absurd (never m)
   stepsOf-is ModeSense list m s = absurd (never m)
+  stepsOf-is SendVolumeTag list m s = absurd (never m)
+  stepsOf-is RequestVolumeElementAddress list m s = absurd (never m)
   stepsOf-is Unknown list m s = absurd (never m)
 
   steps-is : (list : List ℕ) → mixes block ≡ true → blockFits block ≡ true → Same h (touched t h block) (named block) t u

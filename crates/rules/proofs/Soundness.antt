@@ -12,7 +12,7 @@ use Rattle.rules.specs.Choice.{when, allOf, differ, below}
 use Rattle.rules.specs.Bytes.{byte}
 use Rattle.rules.specs.Tables.{Tables, Rest, headSize, elementSize, tagSize, hosts, places, volumes, unit, key, asc, ascq, attention, attentionq, volume, source, holder, id, mark, zeroByte, panel, emptyShelves, mostGenerations}
 use Rattle.rules.specs.Roster.{Slot, Range, range, ranges, roster, kindAt, kindOf, transport, storage, port}
-use Rattle.rules.specs.Sound.{within, countsSound, behind, rangeSound, noOverlap, clear, rangesSound, transportEmpty, sourceSound, markSound, stockSound, holdSound, once, senseSound, attentionSound, headSound, labelsSound, generationsSound, restSound, elementsSound, sound, panelSound, drivesSound}
+use Rattle.rules.specs.Sound.{within, countsSound, behind, rangeSound, noOverlap, clear, rangesSound, transportEmpty, sourceSound, markSound, stockSound, holdSound, once, senseSound, attentionSound, headSound, labelsSound, generationsSound, searchSound, restSound, elementsSound, sound, panelSound, drivesSound}
 use Rattle.rules.specs.Fitting.{suited}
 use Rattle.rules.proofs.Ladder.{either, if-true, if-of, unless-true, unless-of, any-cases, any-by-first, any-by-rest, any-nil, all-first, all-rest, all-cons, all-nil, differ-true, ne-differ, below-at, below-of}
 
@@ -334,20 +334,26 @@ generations-of : (top : ℕ) (generations : List ℕ) → GenerationsFit top gen
 unfolding generationsSound
 generations-of top generations f = all-cons _ _ (eq-eqb _ _ (f .length-is)) (all-cons _ _ (below-of top _ (f .each-in)) all-nil)
 
--- ---- the tables that no call writes
+-- ---- the tables beside the head and the elements
 
 pub record RestFits (r : Rest) : Type 0 where
   pub labels-fit : LabelsFit (r .tags) (r .blank)
   pub generations-fit : GenerationsFit (volumes (r .tags)) (r .generations)
+  pub search-fits : searchSound (r .search) ≡ true
 
 pub rest-true : (r : Rest) → restSound r ≡ true → RestFits r
 unfolding restSound
 rest-true r e =
-    record { labels-fit = labels-true _ _ (all-first _ _ e); generations-fit = generations-true _ _ (all-first _ _ (all-rest _ _ e)) }
+    let e₁ = all-rest _ _ e in
+    record {
+      labels-fit = labels-true _ _ (all-first _ _ e);
+      generations-fit = generations-true _ _ (all-first _ _ e₁);
+      search-fits = all-first _ _ (all-rest _ _ e₁);
+    }
 
 pub rest-of : (r : Rest) → RestFits r → restSound r ≡ true
 unfolding restSound
-rest-of r f = all-cons _ _ (labels-of _ _ (f .labels-fit)) (all-cons _ _ (generations-of _ _ (f .generations-fit)) all-nil)
+rest-of r f = all-cons _ _ (labels-of _ _ (f .labels-fit)) (all-cons _ _ (generations-of _ _ (f .generations-fit)) (all-cons _ _ (f .search-fits) all-nil))
 
 -- ---- the elements, where u holds the unit and top is the last volume number
 

@@ -7,20 +7,21 @@ use mathlib.Core.Logic.{_≢_}
 use mathlib.Core.List.{List, [], _∷_}
 use lib.ListN.{length}
 use Rattle.rules.specs.Bytes.{byte}
-use Rattle.rules.specs.Tables.{Tables, ElementChange, NewStock, NewHolds, NewlyFree, Change, OfHead, OfElements, Recount, inElements, change, changes}
+use Rattle.rules.specs.Tables.{Tables, ElementChange, NewStock, NewHolds, NewlyFree, Change, OfHead, OfElements, OfSearch, Recount, inElements, change, changes}
 use Rattle.rules.specs.Roster.{Slot, roster, kindOf, port}
 use Rattle.rules.specs.Sound.{sound}
 use Rattle.rules.specs.Order.{Verdict, Number, Prevented, Done, InvalidOperation, fits, good, check, conflict}
-use Rattle.rules.specs.Operation.{Operation, TestUnitReady, RequestSense, Reserve, Release, PreventAllow, MoveMedium, ExchangeMedium, ReadElementStatus, ModeSense, Unknown, operation}
+use Rattle.rules.specs.Operation.{Operation, TestUnitReady, RequestSense, Reserve, Release, PreventAllow, MoveMedium, ExchangeMedium, ReadElementStatus, ModeSense, SendVolumeTag, RequestVolumeElementAddress, Unknown, operation}
 use Rattle.rules.specs.Moves.{leave, carry, move, exchange}
 use Rattle.rules.specs.Holds.{holdsFrom, granted, releaseUnit, prevent}
 use Rattle.rules.specs.Sense.{requestSense}
 use Rattle.rules.specs.Listing.{readStatus}
+use Rattle.rules.specs.Search.{requestAddress}
 use Rattle.rules.specs.Mode.{modeSense}
 use Rattle.rules.specs.Events.{noPort, atPort, done, restartedFrom, resetting}
 use Rattle.rules.specs.Command.{Request, Command, act, steps, afterNumbers, judged, judge, verdict}
 use Rattle.rules.proofs.Ladder.{on, differ-false}
-use Rattle.rules.proofs.Walks.{Refusals, Moving, Exchanging, telling, refused-by, steps-by, move-by, exchange-by, reserve-by, release-by}
+use Rattle.rules.proofs.Walks.{Refusals, Moving, Exchanging, telling, refused-by, steps-by, move-by, exchange-by, reserve-by, release-by, tag-by}
 use Rattle.rules.proofs.ElementFields.{HoldsAlone, held-length, held-alone, freed-length, freed-alone}
 
 -- ---- changes that fill no element
@@ -33,6 +34,7 @@ StillElements (NewlyFree w) = Unit {0}
 abbrev pub Still : Change → Type 0
 Still (OfHead c) = Unit {0}
 Still (OfElements c) = StillElements c
+Still (OfSearch c) = Unit {0}
 Still Recount = Unit {0}
 
 abbrev pub AllStill : List Change → Type 0
@@ -45,6 +47,7 @@ still-length-of (OfHead c) t s = refl
 still-length-of (OfElements (NewStock p v o m)) t s = absurd s
 still-length-of (OfElements (NewHolds p n h i)) t s = held-length (t .elements) p n h i
 still-length-of (OfElements (NewlyFree w)) t s = freed-length w (t .elements)
+still-length-of (OfSearch c) t s = refl
 still-length-of Recount t s = refl
 
 still-alone-of : (c : Change) (t : Tables) → Still c → HoldsAlone (t .elements) (change c t .elements)
@@ -53,6 +56,7 @@ still-alone-of (OfHead c) t s j d = refl
 still-alone-of (OfElements (NewStock p v o m)) t s j d = absurd s
 still-alone-of (OfElements (NewHolds p n h i)) t s j d = held-alone (t .elements) p n h i j d
 still-alone-of (OfElements (NewlyFree w)) t s j d = freed-alone w (t .elements) j d
+still-alone-of (OfSearch c) t s j d = refl
 still-alone-of Recount t s j d = refl
 
 pub still-length : (cs : List Change) (t : Tables) → AllStill cs → length (changes cs t .elements) ≡ length (t .elements)
@@ -116,7 +120,7 @@ module _ (P : Verdict → Type 0) (s : Stilled P) (t : Tables) (h : ℕ) where
   still-releaseUnit = still-good _ (on AllStill _ (λ _. (tt, (tt, tt))) (λ _. (tt, tt)))
 
   act-by : Filling P t h → (op : Operation) (block list : List ℕ) → P (act op t h block list)
-  unfolding act move exchange readStatus modeSense prevent
+  unfolding act move exchange readStatus modeSense prevent requestAddress
   act-by f TestUnitReady block list = still-good [] tt
   act-by f RequestSense block list = still-sense block
   act-by f Reserve block list = reserve-by P t h still-refusals block list (λ _. still-good _ (tt, tt)) (still-granted (roster (t .head)) (byte block 2) list)
@@ -126,6 +130,8 @@ module _ (P : Verdict → Type 0) (s : Stilled P) (t : Tables) (h : ℕ) where
   act-by f ExchangeMedium block list = exchange-by P t h still-refusals _ _ _ _ (f .exchanges _ _ _)
   act-by f ReadElementStatus block list = s _ _ _ (tt, tt)
   act-by f ModeSense block list = s _ _ _ (tt, tt)
+  act-by f SendVolumeTag block list = tag-by P t h still-refusals block list (λ _. still-good _ (tt, tt))
+  act-by f RequestVolumeElementAddress block list = s _ _ _ (tt, (tt, tt))
   act-by f Unknown block list = still-refusals .refuses InvalidOperation
 
   all-steps-by : Filling P t h → (block list : List ℕ) → P (steps t h block list)
@@ -161,4 +167,4 @@ module _ (P : Verdict → Type 0) (n : Numbered P) where
 
   pub reset-by : Stilled P → (t : Tables) → P (resetting t)
   unfolding resetting done
-  reset-by s t = on P (sound t) (λ _. s _ _ _ (tt, (tt, (tt, still-restarted _ 1)))) (λ _. n .by-number 1 (omega arith))
+  reset-by s t = on P (sound t) (λ _. s _ _ _ (tt, (tt, (tt, (tt, still-restarted _ 1))))) (λ _. n .by-number 1 (omega arith))

@@ -11,19 +11,20 @@ use lib.Dec.{leb}
 use borrow.Author.Tests.{leb-true}
 use Rattle.rules.specs.Choice.{when}
 use Rattle.rules.specs.Bytes.{byte, put}
-use Rattle.rules.specs.Tables.{Tables, hostAt, Change, OfHead, OfElements, Recount, inHead, change, changes}
+use Rattle.rules.specs.Tables.{Tables, hostAt, Change, OfHead, OfElements, OfSearch, Recount, inHead, change, changes}
 use Rattle.rules.specs.Sound.{sound}
 use Rattle.rules.specs.Order.{Verdict, Number, Prevented, Done, Outcome, GOOD, CHECK-CONDITION, RESERVATION-CONFLICT, Cause, InvalidOperation, outcome, fits, good, check, refused, conflict}
-use Rattle.rules.specs.Operation.{Operation, TestUnitReady, RequestSense, Reserve, Release, PreventAllow, MoveMedium, ExchangeMedium, ReadElementStatus, ModeSense, Unknown, operation}
+use Rattle.rules.specs.Operation.{Operation, TestUnitReady, RequestSense, Reserve, Release, PreventAllow, MoveMedium, ExchangeMedium, ReadElementStatus, ModeSense, SendVolumeTag, RequestVolumeElementAddress, Unknown, operation}
 use Rattle.rules.specs.Moves.{move, exchange}
 use Rattle.rules.specs.Holds.{reserve, release, prevent}
 use Rattle.rules.specs.Sense.{requestSense}
 use Rattle.rules.specs.Listing.{readStatus}
+use Rattle.rules.specs.Search.{sendTag, requestAddress}
 use Rattle.rules.specs.Mode.{modeSense}
 use Rattle.rules.specs.Events.{atPort, done, importing, exporting, resetting}
 use Rattle.rules.specs.Command.{Request, Call, Command, Import, Export, Reset, act, steps, afterNumbers, judged, judge, verdict, bufferOf, serve}
 use Rattle.rules.proofs.Ladder.{on, either}
-use Rattle.rules.proofs.Walks.{Refusals, telling, refused-by, steps-by, move-by, exchange-by, reserve-by, release-by}
+use Rattle.rules.proofs.Walks.{Refusals, telling, refused-by, steps-by, move-by, exchange-by, reserve-by, release-by, tag-by}
 use Rattle.rules.proofs.Writes.{put-length, byte-put}
 use Rattle.rules.proofs.Local.{Local, OfHost, leaves, leaves-length, sense-local, attention-local}
 
@@ -68,6 +69,7 @@ buffer-length t buffer (Done s bytes cs) = put-length buffer 0 bytes
 abbrev pub Own : ℕ → Change → Type 0
 Own h (OfHead c) = Local (OfHost h) (inHead c)
 Own h (OfElements c) = ⊥
+Own h (OfSearch c) = ⊥
 Own h Recount = ⊥
 
 abbrev pub AllOwn : ℕ → List Change → Type 0
@@ -94,6 +96,7 @@ own-alone h (OfHead c) t l =
       head-else = λ j d. leaves (OfHost h) (inHead c) l j (λ (a, b). d a b) (t .head);
     }
 own-alone h (OfElements c) t e = absurd e
+own-alone h (OfSearch c) t e = absurd e
 own-alone h Recount t e = absurd e
 
 all-own-alone : (h : ℕ) (cs : List Change) (t : Tables) → AllOwn h cs → OwnAlone h t (changes cs t)
@@ -165,6 +168,9 @@ module _ (Q : ℕ → Type 0) (reads : Bool) (t : Tables) (h : ℕ) (block : Lis
   ends-release : Ends Q reads h (release t h block)
   ends-release = release-by (Ends Q reads h) t h block (ends-good Q reads h _) (ends-good Q reads h _)
 
+  ends-tag : (list : List ℕ) → Ends Q reads h (sendTag t h block list)
+  ends-tag list = tag-by (Ends Q reads h) t h (ends-refusals Q reads h t) block list (λ _. ends-good Q reads h _)
+
   ends-prevent : Ends Q reads h (prevent t h block)
   unfolding prevent
   ends-prevent = ends-good Q reads h _
@@ -182,11 +188,15 @@ module _ (Q : ℕ → Type 0) (t : Tables) (h : ℕ) (block : List ℕ) where
   unfolding readStatus
   ends-listing = ends-bytes _ _
 
+  ends-found : Ends Q true h (requestAddress t h block)
+  unfolding requestAddress
+  ends-found = ends-bytes _ _
+
   ends-mode : Ends Q true h (modeSense t h block)
   unfolding modeSense
   ends-mode = ends-bytes _ _
 
--- "Only REQUEST SENSE and READ ELEMENT STATUS with GOOD return bytes", and MODE SENSE since it is known
+-- "Only REQUEST SENSE and READ ELEMENT STATUS with GOOD return bytes", and MODE SENSE and REQUEST VOLUME ELEMENT ADDRESS since they are known
 abbrev pub reads : Operation → Bool
 reads TestUnitReady = false
 reads RequestSense = true
@@ -197,6 +207,8 @@ reads MoveMedium = false
 reads ExchangeMedium = false
 reads ReadElementStatus = true
 reads ModeSense = true
+reads SendVolumeTag = false
+reads RequestVolumeElementAddress = true
 reads Unknown = false
 
 abbrev pub reading : List ℕ → Bool
@@ -214,6 +226,8 @@ module _ (Q : ℕ → Type 0) where
   ends-act ExchangeMedium t h block list = ends-exchange Q false t h block
   ends-act ReadElementStatus t h block list = ends-listing Q t h block
   ends-act ModeSense t h block list = ends-mode Q t h block
+  ends-act SendVolumeTag t h block list = ends-tag Q false t h block list
+  ends-act RequestVolumeElementAddress t h block list = ends-found Q t h block
   ends-act Unknown t h block list = ends-refusals Q false h t .refuses InvalidOperation
 
   ends-steps : (t : Tables) (h : ℕ) (block list : List ℕ) → Ends Q (reading block) h (steps t h block list)
@@ -339,7 +353,7 @@ pub status-three : (t : Tables) (r : Request) → serve t (Command r) .status �
 unfolding serve bufferOf
 status-three t r = three-outcome (reading (r .block)) (r .host) t (r .buffer) _ (command-any t r)
 
--- ---- bytes are returned with GOOD, by REQUEST SENSE, READ ELEMENT STATUS and MODE SENSE
+-- ---- bytes are returned with GOOD, by the four commands that read
 
 count-outcome : (reads : Bool) (h : ℕ) (t : Tables) (buffer : List ℕ) (v : Verdict) → Ends Any reads h v → outcome t buffer v .count ≢ 0
     → (outcome t buffer v .status ≡ GOOD) × (reads ≡ true)
@@ -426,6 +440,9 @@ module _ (t : Tables) (h : ℕ) (block buffer : List ℕ) where
 
   pub prevent-fits : fits buffer (prevent t h block) ≡ prevent t h block
   prevent-fits = fits-silent h buffer _ (ends-prevent _ false t h block)
+
+  pub tag-fits : (list : List ℕ) → fits buffer (sendTag t h block list) ≡ sendTag t h block list
+  tag-fits list = fits-silent h buffer _ (ends-tag _ false t h block list)
 
   pub conflict-fits : fits buffer (conflict h) ≡ conflict h
   conflict-fits = fits-silent h buffer _ (ends-conflict _ false h)

@@ -4,19 +4,21 @@ use Prim.Native.Nat.{ℕ, zero, suc}
 use mathlib.Core.Path.{_≡_}
 use mathlib.Core.Bool.{true, false}
 use mathlib.Core.List.{List, [], _∷_}
+use lib.ListN.{length}
 use lib.Dec.{eqb}
 use Rattle.rules.specs.Choice.{allOf, differ, anyFrom}
 use Rattle.rules.specs.Bytes.{byte}
-use Rattle.rules.specs.Tables.{Tables, places, unit, holder, attention, attentionq, Sense, Attention, HoldUnit, Free, Under, Recount}
+use Rattle.rules.specs.Tables.{Tables, places, unit, holder, attention, attentionq, Sense, Attention, HoldUnit, Free, Under, Seek, Recount}
 use Rattle.rules.specs.Roster.{Slot, roster}
-use Rattle.rules.specs.Operation.{Operation, TestUnitReady, RequestSense, Reserve, Release, PreventAllow, MoveMedium, ExchangeMedium, ReadElementStatus, ModeSense, Unknown}
+use Rattle.rules.specs.Operation.{Operation, TestUnitReady, RequestSense, Reserve, Release, PreventAllow, MoveMedium, ExchangeMedium, ReadElementStatus, ModeSense, SendVolumeTag, RequestVolumeElementAddress, Unknown}
 use Rattle.rules.specs.Order.{Verdict, Done, CHECK-CONDITION, Cause, InvalidOperation, InvalidField, ListLength, ListField, WrongAddress, SourceEmpty, DestinationFull, IncompatibleMedium, good, check, refused, conflict, other, volumeOf, afterAttention, afterUnit, guarded}
 use Rattle.rules.specs.Fitting.{unfit}
 use Rattle.rules.specs.Moves.{noPlace, leave, carry, moveOf, exchangeOf}
 use Rattle.rules.specs.Holds.{faultsFrom, granted, reserveUnit, reserveElements, reserve, releaseUnit, release, descriptors}
+use Rattle.rules.specs.Search.{othersHold, afterOthers, alone, searchFor, sendTag, tagListSize}
 use Rattle.rules.specs.Form.{fault, formed}
 use Rattle.rules.specs.Command.{act, admitted, stepsOf}
-use Rattle.rules.proofs.Ladder.{on, any-first, any-rest}
+use Rattle.rules.proofs.Ladder.{on, any-first, any-rest, differ-false}
 
 -- every cause has key 5
 pub refused-by : (P : Verdict → Type 0) (h : ℕ) → ((a q : ℕ) → P (check h 5 a q)) → (c : Cause) → P (refused h c)
@@ -51,6 +53,8 @@ Passed MoveMedium t h = other h (unit (t .head)) ≡ false
 Passed ExchangeMedium t h = other h (unit (t .head)) ≡ false
 Passed ReadElementStatus t h = other h (unit (t .head)) ≡ false
 Passed ModeSense t h = other h (unit (t .head)) ≡ false
+Passed SendVolumeTag t h = othersHold t h ≡ false
+Passed RequestVolumeElementAddress t h = othersHold t h ≡ false
 Passed Unknown t h = Unit {0}
 
 -- the addresses of a MOVE that is carried out
@@ -84,6 +88,10 @@ module _ (P : Verdict → Type 0) (t : Tables) (h : ℕ) (r : Refusals P t h) wh
   unfolding guarded afterUnit
   guarded-by v p = attention-by _ (on P _ (λ _. r .conflicts) p)
 
+  alone-by : (v : Verdict) → (othersHold t h ≡ false → P v) → P (alone t h v)
+  unfolding alone afterOthers
+  alone-by v p = attention-by _ (on P _ (λ _. r .conflicts) p)
+
   admitted-by : (op : Operation) (v : Verdict) → (Passed op t h → P v) → P (admitted op t h v)
   unfolding admitted
   admitted-by TestUnitReady v p = guarded-by v p
@@ -95,6 +103,8 @@ module _ (P : Verdict → Type 0) (t : Tables) (h : ℕ) (r : Refusals P t h) wh
   admitted-by ExchangeMedium v p = guarded-by v p
   admitted-by ReadElementStatus v p = guarded-by v p
   admitted-by ModeSense v p = guarded-by v p
+  admitted-by SendVolumeTag v p = alone-by v p
+  admitted-by RequestVolumeElementAddress v p = alone-by v p
   admitted-by Unknown v p = p tt
 
   formed-by : (op : Operation) (block list : List ℕ) (v : Verdict) → (eqb (fault op (t .head) block list) 0 ≡ true → P v)
@@ -173,6 +183,15 @@ module _ (P : Verdict → Type 0) (t : Tables) (h : ℕ) (r : Refusals P t h) wh
       on P _ (λ _. on P _ (λ _. r .conflicts) p)
       λ _. on P _ (λ _. r .refuses ListLength)
       λ _. faults-by (roster (t .head)) list (descriptors list) 0 _ (on P _ (λ _. r .conflicts) (λ _. q))
+
+  -- ---- SEND VOLUME TAG
+
+  pub tag-by : (block list : List ℕ) → (length list ≡ tagListSize → P (good h (Seek (searchFor block list) ∷ []))) → P (sendTag t h block list)
+  unfolding sendTag
+  tag-by block list p =
+      on P _ (λ _. r .refuses ListLength)
+      λ e. on P _ (λ _. r .refuses ListField)
+      λ _. p (differ-false _ _ e)
 
 pub release-by : (P : Verdict → Type 0) (t : Tables) (h : ℕ) (block : List ℕ)
     → P (good h (releaseUnit t h)) → P (good h (Free (Under h (byte block 2)) ∷ [])) → P (release t h block)

@@ -1,16 +1,17 @@
 -- The cases on the small library that document 01 marks for proof, and a row for each error that was shipped: tables, call, and the
 -- outcome whole. Assumes nothing.
-use Prim.Native.Nat.{ℕ}
+use Prim.Native.Nat.{ℕ, _*_, _-_}
 use mathlib.Core.List.{List, [], _∷_, _++_}
 use mathlib.Core.Bool.{Bool, true, false}
-use lib.ListN.{replicate, take, drop}
+use lib.ListN.{length, replicate, take, drop}
 use lib.Dec.{eqb}
 use Rattle.rules.specs.Choice.{when, allOf}
-use Rattle.rules.specs.Bytes.{high, low}
+use Rattle.rules.specs.Bytes.{high, low, put}
 use Rattle.rules.specs.Tables.{Tables, elementSize, row}
 use Rattle.rules.specs.Order.{Outcome}
 use Rattle.rules.specs.Command.{Call, Import, Export, Reset, serve}
-use Rattle.rules.specs.Small.{Host, hostBytes, quiet, senses, awaits, headShowing, headOf, quietShowing, element, empty, loaded, elementsOf, libraryOf, library, quietHead, smallElements, small, moveBlock, exchangeBlock, byArm, readBlock, reserveBlock, naming, sends, asks, lentBuffer, endsOn, ends, checks, refuses}
+use Rattle.rules.specs.Search.{noSearch}
+use Rattle.rules.specs.Small.{Host, hostBytes, quiet, senses, awaits, headShowing, headOf, quietShowing, element, empty, loaded, elementsOf, libraryOf, library, quietHead, smallElements, small, moveBlock, exchangeBlock, byArm, readBlock, reserveBlock, naming, filledUp, films, searchOf, tagBlock, tagList, requestBlock, sends, asks, lentBuffer, endsOn, ends, checks, refuses}
 
 pub data Name : Type 0 where
   P1 : Name
@@ -110,6 +111,45 @@ pub data Name : Type 0 where
   EXCHANGE-two-arms-held : Name
   EXCHANGE-all-arms-held : Name
   EXCHANGE-named-arm-held : Name
+  TAG-begins : Name
+  TAG-of-39-bytes : Name
+  TAG-reserved-byte : Name
+  TAG-action-0 : Name
+  TAG-action-4 : Name
+  TAG-type-5 : Name
+  TAG-other-length : Name
+  TAG-element-held : Name
+  TAG-its-own-element : Name
+  REQUEST-element-held : Name
+  TAG-element-held-action-0 : Name
+  REQUEST-both : Name
+  REQUEST-cut : Name
+  REQUEST-goes-on : Name
+  REQUEST-all-told : Name
+  REQUEST-one-at-most : Name
+  REQUEST-header-alone : Name
+  REQUEST-without-a-search : Name
+  REQUEST-from-a-start : Name
+  REQUEST-of-drives : Name
+  REQUEST-of-the-searchs-type : Name
+  REQUEST-of-any : Name
+  REQUEST-single-characters : Name
+  REQUEST-no-more-characters : Name
+  REQUEST-whole-label : Name
+  REQUEST-zeros-are-no-blanks : Name
+  REQUEST-range : Name
+  REQUEST-range-both-ends : Name
+  REQUEST-empty-range : Name
+  REQUEST-range-ignored : Name
+  search-of-40-bytes : Name
+  search-with-action-2 : Name
+  search-with-action-0 : Name
+  search-with-type-5 : Name
+  search-behind-10000h : Name
+  search-at-10000h : Name
+  reset-clears-the-search : Name
+  REQUEST-number-5 : Name
+  REQUEST-byte-9 : Name
 
 pub record Case : Type 0 where
   pub name : Name
@@ -704,11 +744,184 @@ armExchanges =
     ∷ armStalls EXCHANGE-named-arm-held 0 2 0 (byArm 0x0002 (exchangeBlock 0x1000 0x1002 0x1000)) 0x18 quiet
     ∷ []
 
+-- ---- "Find by label": volume 1, FILM01, at 1000h and volume 2, FILM02, at 1002h
+
+-- FILM* and others
+unfoldable pub FILM-any : List ℕ
+FILM-any = 0x46 ∷ 0x49 ∷ 0x4C ∷ 0x4D ∷ 0x2A ∷ []
+
+-- a search for FILM* of all types under 5h, up to its next address
+unfoldable pub filmsFrom : ℕ → List ℕ
+filmsFrom next = searchOf FILM-any 0 5 0 0 next
+
+-- SEND VOLUME TAG of host 1, on a search that has come to 1001h: status, sense and search afterwards
+unfoldable pub sendsTag : Name → List ℕ → List ℕ → ℕ → Host → List ℕ → Case
+sendsTag name block list status one search =
+    record {
+      name = name;
+      on = films (filmsFrom 0x1001) quietHead smallElements;
+      call = sends 1 block list [];
+      gives = endsOn status (films search (headOf 0 0 one quiet quiet) smallElements);
+    }
+
+unfoldable pub tagCases : List Case
+tagCases =
+    let list = tagList FILM-any 3 4 in
+    let old = filmsFrom 0x1001 in
+    sendsTag TAG-begins (tagBlock 2 0x1002 1 40) list 0x00 quiet (searchOf FILM-any 2 1 3 4 0x1002)
+    -- "other than 40 is 5/1A/00"
+    ∷ sendsTag TAG-of-39-bytes (tagBlock 2 0x1002 1 39) (take 39 list) 0x02 (senses 5 0x1A 0x00) old
+    ∷ sendsTag TAG-reserved-byte (tagBlock 2 0x1002 1 40) (put list 36 (1 ∷ [])) 0x02 (senses 5 0x26 0x00) old
+    -- "actions 1h and 5h (primary tags), others 5/24/00"
+    ∷ sendsTag TAG-action-0 (tagBlock 2 0x1002 0 40) list 0x02 (senses 5 0x24 0x00) old
+    ∷ sendsTag TAG-action-4 (tagBlock 2 0x1002 4 40) list 0x02 (senses 5 0x24 0x00) old
+    ∷ sendsTag TAG-type-5 (tagBlock 5 0x1002 1 40) list 0x02 (senses 5 0x24 0x00) old
+    -- "Number 4 reads B6h's own list length"
+    ∷ (let t = films old quietHead smallElements in
+    record { name = TAG-other-length; on = t; call = sends 1 (tagBlock 2 0x1002 1 39) list []; gives = refuses 4 t [] })
+    ∷ []
+
+-- "18h if any other host holds unit or element, at step 3": an element that holder has
+unfoldable pub heldShelf : ℕ → List ℕ
+heldShelf holder = elementsOf empty empty (loaded 1) (element 0 0 holder 0 0) (loaded 2) empty
+
+unfoldable pub meetsHolder : Name → ℕ → List ℕ → List ℕ → List ℕ → ℕ → List ℕ → Case
+meetsHolder name holder before block list status search =
+    record {
+      name = name;
+      on = films before quietHead (heldShelf holder);
+      call = sends 1 block list [];
+      gives = endsOn status (films search quietHead (heldShelf holder));
+    }
+
+unfoldable pub holderCases : List Case
+holderCases =
+    meetsHolder TAG-element-held 2 noSearch (tagBlock 0 0 5 40) (tagList FILM-any 0 0) 0x18 noSearch
+    ∷ meetsHolder TAG-its-own-element 1 noSearch (tagBlock 0 0 5 40) (tagList FILM-any 0 0) 0x00 (filmsFrom 0)
+    ∷ meetsHolder REQUEST-element-held 2 (filmsFrom 0) (requestBlock 0 0 9 0) [] 0x18 (filmsFrom 0)
+    -- before step 4
+    ∷ meetsHolder TAG-element-held-action-0 2 noSearch (tagBlock 0 0 0 40) (tagList FILM-any 0 0) 0x18 noSearch
+    ∷ []
+
+-- the header: first address, how many, action, bytes of all pages
+unfoldable pub found-header : ℕ → ℕ → ℕ → ℕ → List ℕ
+found-header first many action bytes = high first ∷ low first ∷ 0 ∷ many ∷ action ∷ 0 ∷ 0 ∷ bytes ∷ []
+
+-- a page of so many shelves without tags: its header, then 16 bytes for each
+unfoldable pub shelf-page : ℕ → List ℕ
+shelf-page many = 2 ∷ 0 ∷ 0 ∷ 16 ∷ 0 ∷ 0 ∷ 0 ∷ 16 * many ∷ []
+
+unfoldable pub shelf-full : ℕ → List ℕ
+shelf-full address = high address ∷ low address ∷ 0x09 ∷ 0 ∷ 0 ∷ 0 ∷ 0 ∷ 0 ∷ 0 ∷ 0 ∷ 0 ∷ 0 ∷ 0 ∷ 0 ∷ 0 ∷ 0 ∷ []
+
+-- REQUEST VOLUME ELEMENT ADDRESS of host 1: the search, the block, the bytes returned and the search afterwards
+unfoldable pub finds : Name → List ℕ → List ℕ → List ℕ → List ℕ → Case
+finds name before block bytes behind =
+    record {
+      name = name;
+      on = films before quietHead smallElements;
+      call = sends 1 block [] (lentBuffer 50);
+      gives =
+          record {
+            number = 0;
+            status = 0x00;
+            count = length bytes;
+            preventers = 0;
+            lowest = 0;
+            tables = films behind quietHead smallElements;
+            buffer = bytes ++ lentBuffer (50 - length bytes);
+          };
+    }
+
+unfoldable pub findCases : List Case
+findCases =
+    let both : ℕ → List ℕ = λ action. found-header 0x1000 2 action 40 ++ shelf-page 2 ++ shelf-full 0x1000 ++ shelf-full 0x1002 in
+    let first : ℕ → List ℕ = λ action. found-header 0x1000 1 action 24 ++ shelf-page 1 ++ shelf-full 0x1000 in
+    let second : ℕ → List ℕ = λ action. found-header 0x1002 1 action 24 ++ shelf-page 1 ++ shelf-full 0x1002 in
+    let of : List ℕ → ℕ → ℕ → ℕ → ℕ → List ℕ = λ name action least greatest next. searchOf name 0 action least greatest next in
+    finds REQUEST-both (filmsFrom 0) (requestBlock 0 0 9 256) (both 5) (filmsFrom 0x1003)
+    -- "only descriptors returned whole count as told"
+    ∷ finds REQUEST-cut (filmsFrom 0) (requestBlock 0 0 9 47) (found-header 0x1000 2 5 40 ++ shelf-page 2 ++ shelf-full 0x1000) (filmsFrom 0x1001)
+    ∷ finds REQUEST-goes-on (filmsFrom 0x1001) (requestBlock 0 0 9 256) (second 5) (filmsFrom 0x1003)
+    ∷ finds REQUEST-all-told (filmsFrom 0x1003) (requestBlock 0 0 9 256) (found-header 0 0 5 0) (filmsFrom 0x1003)
+    ∷ finds REQUEST-one-at-most (filmsFrom 0) (requestBlock 0 0 1 256) (first 5) (filmsFrom 0x1001)
+    ∷ finds REQUEST-header-alone (filmsFrom 0) (requestBlock 0 0 9 7) (take 7 (both 5)) (filmsFrom 0)
+    ∷ finds REQUEST-without-a-search noSearch (requestBlock 0 0 9 256) (found-header 0 0 0 0) noSearch
+    ∷ finds REQUEST-from-a-start (filmsFrom 0) (requestBlock 0 0x1001 9 256) (second 5) (filmsFrom 0x1003)
+    ∷ finds REQUEST-of-drives (filmsFrom 0) (requestBlock 4 0 9 256) (found-header 0 0 5 0) (filmsFrom 0)
+    ∷ finds REQUEST-of-the-searchs-type (searchOf FILM-any 4 5 0 0 0) (requestBlock 0 0 9 256) (found-header 0 0 5 0) (searchOf FILM-any 4 5 0 0 0)
+    -- "only full elements match": the blank label would
+    ∷ finds REQUEST-of-any (of (0x2A ∷ []) 5 0 0 0) (requestBlock 0 0 9 256) (both 5) (of (0x2A ∷ []) 5 0 0 0x1003)
+    ∷ []
+
+unfoldable pub matchCases : List Case
+matchCases =
+    let both : ℕ → List ℕ = λ action. found-header 0x1000 2 action 40 ++ shelf-page 2 ++ shelf-full 0x1000 ++ shelf-full 0x1002 in
+    let first : ℕ → List ℕ = λ action. found-header 0x1000 1 action 24 ++ shelf-page 1 ++ shelf-full 0x1000 in
+    let second : ℕ → List ℕ = λ action. found-header 0x1002 1 action 24 ++ shelf-page 1 ++ shelf-full 0x1002 in
+    let of : List ℕ → ℕ → ℕ → ℕ → ℕ → List ℕ = λ name action least greatest next. searchOf name 0 action least greatest next in
+    let F??M0? : List ℕ = 0x46 ∷ 0x3F ∷ 0x3F ∷ 0x4D ∷ 0x30 ∷ 0x3F ∷ 0x2A ∷ [] in
+    let FILM01 : List ℕ = 0x46 ∷ 0x49 ∷ 0x4C ∷ 0x4D ∷ 0x30 ∷ 0x31 ∷ [] in
+    let blanks : List ℕ = filledUp 0x20 FILM01 in
+    let block = requestBlock 0 0 9 256 in
+    -- "'?' will match any single character"
+    finds REQUEST-single-characters (of F??M0? 5 0 0 0) block (both 5) (of F??M0? 5 0 0 0x1003)
+    -- "'*' will match any string of characters": also one of blanks, or of none that is significant
+    ∷ finds REQUEST-no-more-characters (of (FILM01 ++ (0x2A ∷ [])) 5 0 0 0) block (first 5) (of (FILM01 ++ (0x2A ∷ [])) 5 0 0 0x1001)
+    ∷ finds REQUEST-whole-label (of blanks 5 0 0 0) block (first 5) (of blanks 5 0 0 0x1001)
+    ∷ finds REQUEST-zeros-are-no-blanks (of FILM01 5 0 0 0) block (found-header 0 0 5 0) (of FILM01 5 0 0 0)
+    -- "range": under 1h sequence numbers are judged, both ends included; under 5h they are not
+    ∷ finds REQUEST-range (of FILM-any 1 5 7 0) block (second 1) (of FILM-any 1 5 7 0x1003)
+    ∷ finds REQUEST-range-both-ends (of FILM-any 1 1 7 0) block (both 1) (of FILM-any 1 1 7 0x1003)
+    ∷ finds REQUEST-empty-range (of FILM-any 1 7 1 0) block (found-header 0 0 1 0) (of FILM-any 1 7 1 0)
+    ∷ finds REQUEST-range-ignored (of FILM-any 5 7 1 0) block (both 5) (of FILM-any 5 7 1 0x1003)
+    ∷ []
+
+-- "only a wrong length, or a field's value that no search could leave, is number 1"
+unfoldable pub unsoundSearch : Name → List ℕ → Case
+unsoundSearch name search =
+    let t = films search quietHead smallElements in
+    record { name = name; on = t; call = asks (0x00 ∷ 0 ∷ 0 ∷ 0 ∷ 0 ∷ 0 ∷ []); gives = refuses 1 t [] }
+
+unfoldable pub searchCases : List Case
+searchCases =
+    unsoundSearch search-of-40-bytes (take 40 (filmsFrom 0))
+    ∷ unsoundSearch search-with-action-2 (searchOf FILM-any 0 2 0 0 0)
+    ∷ unsoundSearch search-with-action-0 (searchOf FILM-any 0 0 0 0 0)
+    ∷ unsoundSearch search-with-type-5 (searchOf FILM-any 5 5 0 0 0)
+    ∷ unsoundSearch search-behind-10000h (filmsFrom 0x10001)
+    -- "whatever the elements hold"
+    ∷ record {
+      name = search-at-10000h;
+      on = films (filmsFrom 0x10000) quietHead smallElements;
+      call = asks (0x00 ∷ 0 ∷ 0 ∷ 0 ∷ 0 ∷ 0 ∷ []);
+      gives = endsOn 0x00 (films (filmsFrom 0x10000) quietHead smallElements);
+    }
+    -- "reset clears it"
+    ∷ record {
+      name = reset-clears-the-search;
+      on = films (filmsFrom 0x1001) quietHead smallElements;
+      call = Reset;
+      gives = endsOn 0x00 (films noSearch (headOf 0 0 (awaits 0x29 0x00) (awaits 0x29 0x00) (awaits 0x29 0x00)) smallElements);
+    }
+    -- number 5 tells nothing
+    ∷ (let t = films (filmsFrom 0) quietHead smallElements in
+    record { name = REQUEST-number-5; on = t; call = sends 1 (requestBlock 0 0 9 256) [] (lentBuffer 47); gives = refuses 5 t (lentBuffer 47) })
+    -- byte 9 is reserved in table 20 of document 001
+    ∷ record {
+      name = REQUEST-byte-9;
+      on = films (filmsFrom 0) quietHead smallElements;
+      call = asks (put (requestBlock 0 0 9 256) 9 (1 ∷ []));
+      gives = endsOn 0x02 (films (filmsFrom 0) (headOf 0 0 (senses 5 0x24 0x00) quiet quiet) smallElements);
+    }
+    ∷ []
+
 -- "P1 to P12 are one table", with the rows above
 unfoldable pub cases : List Case
 cases =
     moves ++ exchanges ++ cuts ++ readAll ++ shipped ++ numbers ++ eventNumbers ++ stepCases ++ touchCases ++ holdCases ++ eventCases ++ modeCases ++ longCases
-    ++ shelfMoves ++ shelfExchanges ++ sourceCases ++ panelCases ++ fitMoves ++ fitExchanges ++ fitCases ++ armMoves ++ armExchanges
+    ++ shelfMoves ++ shelfExchanges ++ sourceCases ++ panelCases ++ fitMoves ++ fitExchanges ++ fitCases ++ armMoves ++ armExchanges ++ tagCases ++ holderCases
+    ++ findCases ++ matchCases ++ searchCases
 
 -- ---- the test over all rows: the names of those whose outcome is another
 

@@ -8,13 +8,14 @@ use Rattle.rules.specs.Choice.{when, anyOf}
 use Rattle.rules.specs.Bytes.{byte, word}
 use Rattle.rules.specs.Tables.{Tables, hosts}
 use Rattle.rules.specs.Sound.{sound, within}
-use Rattle.rules.specs.Operation.{Operation, TestUnitReady, RequestSense, Reserve, Release, PreventAllow, MoveMedium, ExchangeMedium, ReadElementStatus, ModeSense, Unknown, operation}
+use Rattle.rules.specs.Operation.{Operation, TestUnitReady, RequestSense, Reserve, Release, PreventAllow, MoveMedium, ExchangeMedium, ReadElementStatus, ModeSense, SendVolumeTag, RequestVolumeElementAddress, Unknown, operation}
 use Rattle.rules.specs.Order.{Verdict, Number, Outcome, InvalidOperation, outcome, fits, good, refused, afterAttention, guarded}
 use Rattle.rules.specs.Moves.{move, exchange}
 use Rattle.rules.specs.Holds.{reserve, release, prevent}
 use Rattle.rules.specs.Sense.{requestSense}
 use Rattle.rules.specs.Listing.{readStatus}
 use Rattle.rules.specs.Mode.{modeSense}
+use Rattle.rules.specs.Search.{alone, sendTag, requestAddress}
 use Rattle.rules.specs.Form.{formed}
 use Rattle.rules.specs.Events.{importing, exporting, resetting}
 
@@ -37,10 +38,13 @@ act MoveMedium t h block list = move t h block
 act ExchangeMedium t h block list = exchange t h block
 act ReadElementStatus t h block list = readStatus t h block
 act ModeSense t h block list = modeSense t h block
+act SendVolumeTag t h block list = sendTag t h block list
+act RequestVolumeElementAddress t h block list = requestAddress t h block
 -- "1. Other first byte: 5/20/00."
 act Unknown t h block list = refused h InvalidOperation
 
--- steps 1 to 3, then the rest: an other first byte meets neither step 2 nor step 3; "2. .. not REQUEST SENSE"; "3. .. never for RELEASE, REQUEST SENSE"
+-- steps 1 to 3, then the rest: an other first byte meets neither step 2 nor step 3; "2. .. not REQUEST SENSE"; "3. .. never for RELEASE, REQUEST SENSE";
+-- "B5h and B6h give 18h if any other host holds unit or element, at step 3"
 unfoldable pub admitted : Operation → Tables → ℕ → Verdict → Verdict
 admitted TestUnitReady t h rest = guarded t h rest
 admitted RequestSense t h rest = rest
@@ -51,6 +55,8 @@ admitted MoveMedium t h rest = guarded t h rest
 admitted ExchangeMedium t h rest = guarded t h rest
 admitted ReadElementStatus t h rest = guarded t h rest
 admitted ModeSense t h rest = guarded t h rest
+admitted SendVolumeTag t h rest = alone t h rest
+admitted RequestVolumeElementAddress t h rest = alone t h rest
 admitted Unknown t h rest = rest
 
 -- steps 1 to 8
@@ -85,6 +91,9 @@ wanted MoveMedium block n = eqb n 0
 wanted ExchangeMedium block n = eqb n 0
 wanted ReadElementStatus block n = eqb n 0
 wanted ModeSense block n = eqb n 0
+-- "Number 4 reads B6h's own list length"
+wanted SendVolumeTag block n = eqb n (word block 8)
+wanted RequestVolumeElementAddress block n = eqb n 0
 wanted Unknown block n = true
 
 unfoldable pub parametersFit : List ℕ → List ℕ → Bool

@@ -4,10 +4,11 @@ use mathlib.Core.List.{List, [], _∷_}
 use mathlib.Core.Bool.{Bool}
 use lib.Dec.{eqb, ltb}
 use Rattle.rules.specs.Choice.{when, anyOf, differ, anyFrom}
-use Rattle.rules.specs.Tables.{Tables, hosts, places, volumes, mask, prevents, volume, Change, Sense, Attention, Announce, HoldUnit, Prevent, Fill, Free, Anyone}
+use Rattle.rules.specs.Tables.{Tables, hosts, places, volumes, mask, prevents, volume, Change, Sense, Attention, Announce, HoldUnit, Prevent, Fill, Free, Anyone, Seek}
 use Rattle.rules.specs.Roster.{roster, placeOf, kindOf, port}
 use Rattle.rules.specs.Sound.{sound}
 use Rattle.rules.specs.Order.{Verdict, Number, Prevented, Done, GOOD, volumeOf}
+use Rattle.rules.specs.Search.{noSearch}
 
 -- "how many hosts prevent removal": of the n hosts from h on
 unfoldable pub preventersFrom : ℕ → ℕ → ℕ → ℕ
@@ -67,6 +68,6 @@ unfoldable pub restartedFrom : ℕ → ℕ → List Change
 restartedFrom zero h = []
 restartedFrom (suc n) h = Sense h 0 0 0 ∷ Attention h 0x29 0x00 ∷ restartedFrom n (suc h)
 
--- "Reset frees all reservations, clears mask and sense, sets attention 29h/00h for all; volumes stay."
+-- "Reset frees all reservations, clears mask and sense, sets attention 29h/00h for all; volumes stay."; of a search: "reset clears it"
 unfoldable pub resetting : Tables → Verdict
-resetting t = when (sound t) (done (HoldUnit 0 ∷ Free Anyone ∷ Prevent 0 ∷ restartedFrom hosts 1)) (Number 1)
+resetting t = when (sound t) (done (HoldUnit 0 ∷ Free Anyone ∷ Seek noSearch ∷ Prevent 0 ∷ restartedFrom hosts 1)) (Number 1)

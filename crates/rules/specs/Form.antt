@@ -9,11 +9,12 @@ use Rattle.rules.specs.Choice.{when, allOf, differ}
 use Rattle.rules.specs.Bytes.{byte}
 use Rattle.rules.specs.Tables.{Tables}
 use Rattle.rules.specs.Roster.{drive}
-use Rattle.rules.specs.Operation.{Operation, TestUnitReady, RequestSense, Reserve, Release, PreventAllow, MoveMedium, ExchangeMedium, ReadElementStatus, ModeSense, Unknown}
+use Rattle.rules.specs.Operation.{Operation, TestUnitReady, RequestSense, Reserve, Release, PreventAllow, MoveMedium, ExchangeMedium, ReadElementStatus, ModeSense, SendVolumeTag, RequestVolumeElementAddress, Unknown}
 use Rattle.rules.specs.Order.{Verdict, InvalidField, refused}
 use Rattle.rules.specs.Holds.{ofUnit}
 use Rattle.rules.specs.Listing.{typeCode}
 use Rattle.rules.specs.Mode.{noAnswer}
+use Rattle.rules.specs.Search.{knownAction, actionCode}
 
 -- the bits without a use of each byte, from byte 1 on
 unfoldable pub unused : Operation → List ℕ
@@ -34,6 +35,10 @@ unused ExchangeMedium = 0x1F ∷ 0x00 ∷ 0x00 ∷ 0x00 ∷ 0x00 ∷ 0x00 ∷ 0x
 unused ReadElementStatus = 0x00 ∷ 0x00 ∷ 0x00 ∷ 0x00 ∷ 0x00 ∷ 0xFF ∷ 0x00 ∷ 0x00 ∷ 0x00 ∷ 0xFF ∷ 0xFF ∷ []
 -- byte 1 bit 3 "DBD is ignored", byte 2 page control and page code, byte 4 allocation
 unused ModeSense = 0x17 ∷ 0x00 ∷ 0xFF ∷ 0x00 ∷ 0xFF ∷ []
+-- byte 1 bits 0-3 type, 2-3 start, byte 5 bits 0-4 action, 8-9 list length
+unused SendVolumeTag = 0x10 ∷ 0x00 ∷ 0x00 ∷ 0xFF ∷ 0xE0 ∷ 0xFF ∷ 0xFF ∷ 0x00 ∷ 0x00 ∷ 0xFF ∷ 0xFF ∷ []
+-- byte 1 bit 4 tags, bits 0-3 type, 2-3 start, 4-5 most elements, 7-8 allocation
+unused RequestVolumeElementAddress = 0x00 ∷ 0x00 ∷ 0x00 ∷ 0x00 ∷ 0x00 ∷ 0xFF ∷ 0x00 ∷ 0x00 ∷ 0xFF ∷ 0xFF ∷ 0xFF ∷ []
 unused Unknown = []
 
 -- the lowest byte, from byte i on, that has a bit without a use; 0 where none has
@@ -43,6 +48,18 @@ strayFrom (m ∷ ms) block i = when (eqb (bitAnd (byte block i) m) 0) (strayFrom
 
 unfoldable pub stray : List ℕ → List ℕ → ℕ
 stray masks block = strayFrom masks block 1
+
+-- "a type code above 4"
+unfoldable pub typeFault : List ℕ → ℕ
+typeFault block = when (ltb drive (typeCode block)) 1 0
+
+-- "actions 1h and 5h (primary tags), others 5/24/00"
+unfoldable pub actionFault : List ℕ → ℕ
+actionFault block = when (knownAction (actionCode block)) 0 5
+
+-- the lower of two bytes at fault, 0 being none
+unfoldable pub lower : ℕ → ℕ → ℕ
+lower i j = when (eqb i 0) j (when (eqb j 0) i (when (leb i j) i j))
 
 -- a fault of the command's own, at its byte; 0 where there is none. "a type code above 4"; RESERVE with Element 0: "list length must be 0 (else 5/24/00)";
 -- MODE SENSE: "other page controls and pages give 5/24/00", and so does too long an answer
@@ -54,13 +71,11 @@ ownFault Release head block list = 0
 ownFault PreventAllow head block list = 0
 ownFault MoveMedium head block list = 0
 ownFault ExchangeMedium head block list = 0
-ownFault ReadElementStatus head block list = when (ltb drive (typeCode block)) 1 0
+ownFault ReadElementStatus head block list = typeFault block
 ownFault ModeSense head block list = when (noAnswer head block) 2 0
+ownFault SendVolumeTag head block list = lower (typeFault block) (actionFault block)
+ownFault RequestVolumeElementAddress head block list = typeFault block
 ownFault Unknown head block list = 0
-
--- the lower of two bytes at fault, 0 being none
-unfoldable pub lower : ℕ → ℕ → ℕ
-lower i j = when (eqb i 0) j (when (eqb j 0) i (when (leb i j) i j))
 
 -- where step 4 finds a fault: the lowest byte; 0 where it finds none
 unfoldable pub fault : Operation → List ℕ → List ℕ → List ℕ → ℕ

@@ -10,7 +10,7 @@ use Rattle.rules.specs.Bytes.{word}
 use Rattle.rules.specs.Tables.{Tables, volume}
 use Rattle.rules.specs.Order.{Outcome, after, volumeOf}
 use Rattle.rules.specs.Command.{Request, Call, Command, Import, Export, Reset, blockFits, verdict, serve}
-use Rattle.rules.specs.Operation.{Operation, TestUnitReady, RequestSense, Reserve, Release, PreventAllow, MoveMedium, ExchangeMedium, ReadElementStatus, ModeSense, Unknown, operation}
+use Rattle.rules.specs.Operation.{Operation, TestUnitReady, RequestSense, Reserve, Release, PreventAllow, MoveMedium, ExchangeMedium, ReadElementStatus, ModeSense, SendVolumeTag, RequestVolumeElementAddress, Unknown, operation}
 
 -- ---- calls one after the other, by the rules
 
@@ -120,6 +120,8 @@ joins MoveMedium = true
 joins ExchangeMedium = true
 joins ReadElementStatus = false
 joins ModeSense = false
+joins SendVolumeTag = false
+joins RequestVolumeElementAddress = false
 joins Unknown = false
 
 unfoldable pub mixes : List ℕ → Bool
@@ -136,6 +138,8 @@ namedBy MoveMedium block = word block 4 ∷ word block 6 ∷ []
 namedBy ExchangeMedium block = word block 4 ∷ word block 6 ∷ word block 8 ∷ []
 namedBy ReadElementStatus block = []
 namedBy ModeSense block = []
+namedBy SendVolumeTag block = []
+namedBy RequestVolumeElementAddress block = []
 namedBy Unknown block = []
 
 -- the source and destination addresses that a block names: one "of wrong length" (number 3) has no such bytes, and names nothing

@@ -11,12 +11,14 @@ pub mod Moves
 pub mod Holds
 pub mod Sense
 pub mod Listing
+pub mod Search
 pub mod Mode
 pub mod Form
 pub mod Events
 pub mod Command
 pub mod Numbers
 pub mod Histories
+pub mod Told
 pub mod Log
 pub mod Replay
 pub mod Shelves

@@ -1,4 +1,4 @@
--- READ ELEMENT STATUS: what is chosen, the whole answer, and what of it is returned. Assumes nothing.
+-- Listings, of READ ELEMENT STATUS and of a search: what is chosen, the whole answer, and what of it is returned. Assumes nothing.
 use Prim.Native.Nat.{ℕ, suc, _+_, _*_, _-_, _/_, _%_}
 use mathlib.Core.List.{List, [], _∷_, _++_, map}
 use mathlib.Core.Bool.{Bool}
@@ -86,18 +86,19 @@ unfoldable pub joined : List (List ℕ) → List ℕ
 joined [] = []
 joined (p ∷ ps) = p ++ joined ps
 
--- ---- the header: "first chosen address (0 if none), number chosen, 0, three-byte count of all page bytes"
+-- ---- the header: "first chosen address (0 if none), number chosen, 0, three-byte count of all page bytes"; a search tells its action in the
+-- fifth byte
 
 unfoldable pub firstAddress : List Slot → ℕ
 firstAddress [] = 0
 firstAddress (s ∷ ss) = s .address
 
-unfoldable pub header : ℕ → ℕ → ℕ → List ℕ
-header a n bytes = high a ∷ low a ∷ high n ∷ low n ∷ 0 ∷ three bytes
+unfoldable pub header : ℕ → ℕ → ℕ → ℕ → List ℕ
+header a n code bytes = high a ∷ low a ∷ high n ∷ low n ∷ code ∷ three bytes
 
 -- "Counts are never cut to the allocation."
-unfoldable pub headerOf : List Slot → List (List ℕ) → List ℕ
-headerOf ss ps = header (firstAddress ss) (length ss) (length (joined ps))
+unfoldable pub headerOf : ℕ → List Slot → List (List ℕ) → List ℕ
+headerOf code ss ps = header (firstAddress ss) (length ss) code (length (joined ps))
 
 -- ---- what is returned
 
@@ -110,16 +111,26 @@ fitting room (p ∷ ps) = when (leb (length p) room) (p ++ fitting (room - lengt
 unfoldable pub returned : ℕ → List ℕ → List (List ℕ) → List ℕ
 returned allocation head ps = when (ltb allocation 8) (cut allocation head) (head ++ fitting (allocation - 8) ps)
 
+-- how many pieces are returned whole
+unfoldable pub wholes : ℕ → List (List ℕ) → ℕ
+wholes room [] = 0
+wholes room (p ∷ ps) = when (leb (length p) room) (suc (wholes (room - length p) ps)) 0
+
+-- what a block chooses of elements
+unfoldable pub chosenOf : List Slot → List ℕ → List Slot
+chosenOf ss block = chosen (typeCode block) (word block 2) (word block 4) ss
+
+-- of all
 unfoldable pub chosenBy : Tables → List ℕ → List Slot
-chosenBy t block = chosen (typeCode block) (word block 2) (word block 4) (roster (t .head))
+chosenBy t block = chosenOf (roster (t .head)) block
 
 unfoldable pub pagesOf : Bool → Tables → List Slot → List (List ℕ)
 pagesOf tagged t ss = pages tagged t (sorted (ranges (t .head))) ss
 
 -- the bytes returned for the elements chosen
-unfoldable pub listing : Bool → Tables → ℕ → List Slot → List ℕ
-listing tagged t allocation ss = returned allocation (headerOf ss (pagesOf tagged t ss)) (pagesOf tagged t ss)
+unfoldable pub listing : ℕ → Bool → Tables → ℕ → List Slot → List ℕ
+listing code tagged t allocation ss = returned allocation (headerOf code ss (pagesOf tagged t ss)) (pagesOf tagged t ss)
 
 -- READ ELEMENT STATUS, from step 5 on
 unfoldable pub readStatus : Tables → ℕ → List ℕ → Verdict
-readStatus t h block = Done GOOD (listing (withTags block) t (triple block 7) (chosenBy t block)) (Sense h 0 0 0 ∷ [])
+readStatus t h block = Done GOOD (listing 0 (withTags block) t (triple block 7) (chosenBy t block)) (Sense h 0 0 0 ∷ [])

@@ -1,10 +1,11 @@
 -- "The small library": its tables, the blocks of its cases, and a row for each case with the outcome whole. Assumes nothing.
-use Prim.Native.Nat.{ℕ}
+use Prim.Native.Nat.{ℕ, _-_}
 use mathlib.Core.List.{List, [], _∷_, _++_}
-use lib.ListN.{replicate}
+use lib.ListN.{length, replicate}
 use Rattle.rules.specs.Bytes.{three, high, low, put}
-use Rattle.rules.specs.Tables.{Tables, lent, others}
+use Rattle.rules.specs.Tables.{Tables, templateSize, lent, others}
 use Rattle.rules.specs.Order.{Outcome}
+use Rattle.rules.specs.Search.{noSearch}
 use Rattle.rules.specs.Command.{Call, Command}
 
 -- "Transport 0001h, import/export 0010h, drive 0100h, storage 1000h to 1003h": in the head's order transport, storage, import/export, drive
@@ -73,7 +74,7 @@ smallMasks = 0x01 ∷ []
 
 -- volumes of these generations, and a drive that takes those of a mask
 unfoldable pub libraryOf : List ℕ → List ℕ → List ℕ → List ℕ → Tables
-libraryOf generations masks head elements = lent head elements (others smallTags smallBlank generations masks)
+libraryOf generations masks head elements = lent head elements (others smallTags smallBlank generations masks noSearch)
 
 unfoldable pub library : List ℕ → List ℕ → Tables
 library head elements = libraryOf smallGenerations smallMasks head elements
@@ -116,6 +117,43 @@ reserveBlock id bytes = 0x16 ∷ 1 ∷ id ∷ high bytes ∷ low bytes ∷ 0 ∷
 -- a descriptor of RESERVE's list
 unfoldable pub naming : ℕ → ℕ → List ℕ
 naming number address = 0 ∷ 0 ∷ high number ∷ low number ∷ high address ∷ low address ∷ []
+
+-- ---- labels and searches
+
+-- a label, or a template of 32 bytes, that begins with these and goes on with a byte
+unfoldable pub filledUp : ℕ → List ℕ → List ℕ
+filledUp b name = name ++ replicate (templateSize - length name) b
+
+-- "Unused positions shall be blank (20h) filled"; the sequence number stands in the last two of 36 bytes
+unfoldable pub labelWith : List ℕ → ℕ → List ℕ
+labelWith name sequence = filledUp 0x20 name ++ (0 ∷ 0 ∷ high sequence ∷ low sequence ∷ [])
+
+-- FILM01 with sequence number 1 at 1000h, FILM02 with 7 at 1002h; TEST outside
+unfoldable pub filmTags : List ℕ
+filmTags =
+    labelWith (0x46 ∷ 0x49 ∷ 0x4C ∷ 0x4D ∷ 0x30 ∷ 0x31 ∷ []) 1 ++ labelWith (0x46 ∷ 0x49 ∷ 0x4C ∷ 0x4D ∷ 0x30 ∷ 0x32 ∷ []) 7
+    ++ labelWith (0x54 ∷ 0x45 ∷ 0x53 ∷ 0x54 ∷ []) 1
+
+unfoldable pub films : List ℕ → List ℕ → List ℕ → Tables
+films search head elements = lent head elements (others filmTags smallBlank smallGenerations smallMasks search)
+
+-- a search: template, type, action, least and greatest sequence number, next address
+unfoldable pub searchOf : List ℕ → ℕ → ℕ → ℕ → ℕ → ℕ → List ℕ
+searchOf name type action least greatest next =
+    filledUp 0 name ++ (type ∷ action ∷ high least ∷ low least ∷ high greatest ∷ low greatest ∷ three next)
+
+-- SEND VOLUME TAG: type, start, action, and a list of so many bytes
+unfoldable pub tagBlock : ℕ → ℕ → ℕ → ℕ → List ℕ
+tagBlock type start action bytes = 0xB6 ∷ type ∷ high start ∷ low start ∷ 0 ∷ action ∷ 0 ∷ 0 ∷ high bytes ∷ low bytes ∷ 0 ∷ 0 ∷ []
+
+-- its list: template, least and greatest sequence number
+unfoldable pub tagList : List ℕ → ℕ → ℕ → List ℕ
+tagList name least greatest = filledUp 0 name ++ (0 ∷ 0 ∷ high least ∷ low least ∷ 0 ∷ 0 ∷ high greatest ∷ low greatest ∷ [])
+
+-- REQUEST VOLUME ELEMENT ADDRESS: byte 1 (tags and type), start, most elements, allocation
+unfoldable pub requestBlock : ℕ → ℕ → ℕ → ℕ → List ℕ
+requestBlock options start most allocation =
+    0xB5 ∷ options ∷ high start ∷ low start ∷ high most ∷ low most ∷ 0 ∷ high allocation ∷ low allocation ∷ 0 ∷ 0 ∷ 0 ∷ []
 
 -- ---- calls
 

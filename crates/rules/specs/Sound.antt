@@ -6,9 +6,10 @@ use lib.ListN.{length}
 use lib.Dec.{eqb, leb}
 use Rattle.rules.specs.Choice.{when, anyOf, allOf, differ, below}
 use Rattle.rules.specs.Bytes.{byte}
-use Rattle.rules.specs.Tables.{Tables, mostElements, mostTransports, mostVolumes, mostGenerations, behindLast, Rest, headSize, elementSize, tagSize, hosts, volumes, unit, key, asc, ascq, attention, attentionq, volume, source, holder, id, mark, zeroByte, panel, emptyShelves}
-use Rattle.rules.specs.Roster.{Slot, Range, range, ranges, roster, kindAt, kindOf, transport, storage, port}
+use Rattle.rules.specs.Tables.{Tables, mostElements, mostTransports, mostVolumes, mostGenerations, behindLast, Rest, headSize, elementSize, tagSize, searchSize, hosts, volumes, searchType, action, nextAddress, unit, key, asc, ascq, attention, attentionq, volume, source, holder, id, mark, zeroByte, panel, emptyShelves}
+use Rattle.rules.specs.Roster.{Slot, Range, range, ranges, roster, kindAt, kindOf, transport, storage, port, drive}
 use Rattle.rules.specs.Fitting.{suited}
+use Rattle.rules.specs.Search.{knownAction}
 
 -- low to high, both ends included
 unfoldable pub within : ℕ → ℕ → ℕ → Bool
@@ -103,9 +104,21 @@ labelsSound tags blank = allOf (leb (volumes tags) mostVolumes ∷ eqb (length t
 unfoldable pub generationsSound : ℕ → List ℕ → Bool
 generationsSound top generations = allOf (eqb (length generations) top ∷ below top (λ i. within 1 mostGenerations (byte generations i)) ∷ [])
 
--- the tables that no call writes, as far as they do not hang on the others
+-- "All zeros means no search; only a wrong length, or a field's value that no search could leave, is number 1"
+unfoldable pub searchSound : List ℕ → Bool
+searchSound search =
+    allOf
+    (eqb (length search) searchSize
+    ∷ anyOf
+    (below searchSize (λ i. eqb (byte search i) 0)
+    ∷ allOf (knownAction (action search) ∷ leb (searchType search) drive ∷ leb (nextAddress search) behindLast ∷ [])
+    ∷ [])
+    ∷ [])
+
+-- the tables beside the head and the elements, as far as they do not hang on these
 unfoldable pub restSound : Rest → Bool
-restSound r = allOf (labelsSound (r .tags) (r .blank) ∷ generationsSound (volumes (r .tags)) (r .generations) ∷ [])
+restSound r =
+    allOf (labelsSound (r .tags) (r .blank) ∷ generationsSound (volumes (r .tags)) (r .generations) ∷ searchSound (r .search) ∷ [])
 
 unfoldable pub elementsSound : List Slot → ℕ → ℕ → List ℕ → Bool
 elementsSound ss u top elements =

@@ -7,10 +7,10 @@ use mathlib.Core.Bool.{Bool}
 use lib.ListN.{length, getD}
 use lib.Dec.{eqb}
 use Rattle.rules.specs.Choice.{when, each, allOf}
-use Rattle.rules.specs.Bytes.{byte, word, put, high, low}
+use Rattle.rules.specs.Bytes.{byte, word, triple, three, put, high, low}
 use Rattle.rules.specs.Roster.{Slot, roster, storage}
 
--- the tables that no call writes
+-- the tables beside the head and the elements; of these a call writes the search alone
 pub record Rest : Type 0 where
   pub tags : List ℕ
   pub blank : List ℕ
@@ -18,6 +18,8 @@ pub record Rest : Type 0 where
   pub generations : List ℕ
   -- "for each drive a mask"
   pub masks : List ℕ
+  -- "One search is kept for the unit in a further lent table"
+  pub search : List ℕ
 
 pub record Tables : Type 0 where
   pub head : List ℕ
@@ -28,19 +30,23 @@ abbrev pub lent : List ℕ → List ℕ → Rest → Tables
 lent head elements rest = record { head = head; elements = elements; rest = rest }
 
 -- all that is lent beside the head and the elements
-abbrev pub others : List ℕ → List ℕ → List ℕ → List ℕ → Rest
-others tags blank generations masks = record { tags = tags; blank = blank; generations = generations; masks = masks }
+abbrev pub others : List ℕ → List ℕ → List ℕ → List ℕ → List ℕ → Rest
+others tags blank generations masks search = record { tags = tags; blank = blank; generations = generations; masks = masks; search = search }
+
+-- with another search
+abbrev pub searching : Rest → List ℕ → Rest
+searching r search = others (r .tags) (r .blank) (r .generations) (r .masks) search
 
 -- the same in a row, and back
 abbrev pub row : Rest → List (List ℕ)
-row r = r .tags ∷ r .blank ∷ r .generations ∷ r .masks ∷ []
+row r = r .tags ∷ r .blank ∷ r .generations ∷ r .masks ∷ r .search ∷ []
 
 abbrev pub ofRow : List (List ℕ) → Rest
-ofRow ts = others (getD ts 0 []) (getD ts 1 []) (getD ts 2 []) (getD ts 3 [])
+ofRow ts = others (getD ts 0 []) (getD ts 1 []) (getD ts 2 []) (getD ts 3 []) (getD ts 4 [])
 
 -- the labels, and every other table empty
 abbrev pub labels : List ℕ → List ℕ → Rest
-labels tags blank = others tags blank [] []
+labels tags blank = others tags blank [] [] []
 
 -- every one of them empty
 abbrev pub bare : Rest
@@ -63,6 +69,10 @@ elementSize = 8
 -- "Tags, 36 bytes for each volume number"; "Blank label, 36 bytes"
 abbrev pub tagSize : ℕ
 tagSize = 36
+
+-- the search: "template, type, range and next address", and the action
+abbrev pub searchSize : ℕ
+searchSize = 41
 
 -- RESERVE's list: "descriptors of 6 bytes"
 abbrev pub descriptorSize : ℕ
@@ -124,6 +134,25 @@ panelAt = headSize - 2
 
 abbrev pub elementAt : ℕ → ℕ
 elementAt p = elementSize * p
+
+-- the search: a template of 32 bytes, then type, action, least and greatest sequence number, and the next address in three bytes
+abbrev pub templateSize : ℕ
+templateSize = 32
+
+abbrev pub searchTypeAt : ℕ
+searchTypeAt = templateSize
+
+abbrev pub actionAt : ℕ
+actionAt = searchTypeAt + 1
+
+abbrev pub leastAt : ℕ
+leastAt = actionAt + 1
+
+abbrev pub greatestAt : ℕ
+greatestAt = leastAt + 2
+
+abbrev pub nextAt : ℕ
+nextAt = greatestAt + 2
 
 -- how many records an element table holds
 unfoldable pub places : List ℕ → ℕ
@@ -187,6 +216,27 @@ mark elements p = byte elements (elementAt p + 6)
 -- "zero (1)"
 unfoldable pub zeroByte : List ℕ → ℕ → ℕ
 zeroByte elements p = byte elements (elementAt p + 7)
+
+-- ---- the fields of the search
+
+-- "0 all types"
+unfoldable pub searchType : List ℕ → ℕ
+searchType search = byte search searchTypeAt
+
+-- 1h or 5h; 0 where there is no search: "All zeros means no search"
+unfoldable pub action : List ℕ → ℕ
+action search = byte search actionAt
+
+-- "range": the least and the greatest sequence number
+unfoldable pub least : List ℕ → ℕ
+least search = word search leastAt
+
+unfoldable pub greatest : List ℕ → ℕ
+greatest search = word search greatestAt
+
+-- "next address": the lowest that may still be told; behind FFFFh it is 10000h
+unfoldable pub nextAddress : List ℕ → ℕ
+nextAddress search = triple search nextAt
 
 -- ---- "how many storage elements are empty"
 
@@ -292,6 +342,12 @@ pub data ElementChange : Type 0 where
   NewHolds : ℕ → ℕ → ℕ → ℕ → ElementChange
   NewlyFree : Whose → ElementChange
 
+pub data SearchChange : Type 0 where
+  -- "A new search replaces it": its bytes
+  NewSearch : List ℕ → SearchChange
+  -- the next address
+  NewNext : ℕ → SearchChange
+
 unfoldable pub inHead : HeadChange → List ℕ → List ℕ
 inHead (NewSense h k a q) head = sensed head h k a q
 inHead (NewAttention h a q) head = attended head h a q
@@ -304,15 +360,21 @@ inElements (NewStock p v s m) elements = filled elements p v s m
 inElements (NewHolds p n h i) elements = held elements p n h i
 inElements (NewlyFree w) elements = freed w elements
 
+unfoldable pub inSearch : SearchChange → List ℕ → List ℕ
+inSearch (NewSearch bytes) search = put search 0 bytes
+inSearch (NewNext a) search = put search nextAt (three a)
+
 pub data Change : Type 0 where
   OfHead : HeadChange → Change
   OfElements : ElementChange → Change
+  OfSearch : SearchChange → Change
   -- the panel's number, by the elements as they then are
   Recount : Change
 
 unfoldable pub change : Change → Tables → Tables
 change (OfHead c) t = lent (inHead c (t .head)) (t .elements) (t .rest)
 change (OfElements c) t = lent (t .head) (inElements c (t .elements)) (t .rest)
+change (OfSearch c) t = lent (t .head) (t .elements) (searching (t .rest) (inSearch c (t .rest .search)))
 change Recount t = lent (shown (t .head) (emptyShelves (roster (t .head)) (t .elements))) (t .elements) (t .rest)
 
 -- one change after another
@@ -344,3 +406,9 @@ Hold p n h i = OfElements (NewHolds p n h i)
 
 abbrev pub Free : Whose → Change
 Free w = OfElements (NewlyFree w)
+
+abbrev pub Seek : List ℕ → Change
+Seek bytes = OfSearch (NewSearch bytes)
+
+abbrev pub GoOn : ℕ → Change
+GoOn a = OfSearch (NewNext a)

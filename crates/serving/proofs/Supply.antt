@@ -3,13 +3,18 @@ use Prim.Native.Nat.{ℕ}
 use mathlib.Core.Path.{_≡_}
 use mathlib.Core.Bool.{true}
 use mathlib.Core.List.{List}
-use Rattle.rules.specs.Tables.{Rest, lent}
+use lib.ListN.{length}
+use Rattle.rules.specs.Tables.{Rest, lent, searchSize}
 use Rattle.rules.specs.Sound.{sound}
 use Rattle.rules.proofs.Soundness.{sound-true}
+use Rattle.rules.proofs.KeepSearch.{search-length}
 use Rattle.tables.specs.declared.Range.{Range}
 use Rattle.tables.specs.Ranges.{Runs}
 use Rattle.ports.specs.Judged.{Ported, Importable}
 use Rattle.steps.proofs.Supply.{head-room, records}
+
+pub search-room : (head elements : List ℕ) (rest : Rest) → sound (lent head elements rest) ≡ true → length (rest .search) ≡ searchSize
+search-room head elements rest s = search-length _ (sound-true (lent head elements rest) s .rest-fits .search-fits)
 
 module _ (head elements : List ℕ) (rest : Rest) (s : sound (lent head elements rest) ≡ true) (runs : List Range) (is : Runs runs head) where
   pub ported : Ported runs head elements

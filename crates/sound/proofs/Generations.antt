@@ -1,17 +1,16 @@
--- The generations, one after the other: those before i are 1 to 8, or not. Assumes nothing.
+-- The generations: each is 1 to 8, or not. Assumes nothing.
 use Prim.Native.Nat.{ℕ, _+_, _%_, _<_, _≤_}
 use native.Mathlib.Omega.{arith}
-use mathlib.Core.Path.{_≡_, refl, _∙_}
+use mathlib.Core.Path.{_≡_, refl}
 use mathlib.Core.Bool.{Bool, true, false}
 use mathlib.Core.List.{List}
-use lib.ListN.{length, getD}
+use lib.ListN.{length}
 use lib.Dec.{leb}
 use borrow.Author.Tests.{leb-true, le-leb}
 use Rattle.rules.specs.Choice.{when, allOf, below}
 use Rattle.rules.specs.Bytes.{byte}
 use Rattle.rules.specs.Tables.{mostGenerations}
 use Rattle.rules.specs.Sound.{within, generationsSound}
-use Rattle.rules.proofs.Ladder.{below-step}
 use Rattle.sound_head.proofs.Tests.{all-eq-go, all-last}
 
 -- ---- one generation, by the number from the first on, where 0 wraps round
@@ -30,30 +29,9 @@ module _ (g r : ℕ) (small : r < 256) (is : (r + 1) % 256 ≡ g) (fine : Bool) 
   unfolding within allOf when
   inside h = rw (le-leb 1 g (omega arith), le-leb g 8 (omega arith))
 
--- ---- one after the other
+-- ---- as many as there are volumes
 
-abbrev one : List ℕ → ℕ → Bool
-one gs i = within 1 mostGenerations (byte gs i)
-
-pub record Gathered (gs : List ℕ) (fine : Bool) (i : ℕ) : Type 0 where
-  pub far : i ≤ length gs
-  pub so-far : fine ≡ below i (one gs)
-
-module _ (gs : List ℕ) where
-  pub gather-begins : Gathered gs true 0
-  unfolding below
-  gather-begins = record { far = omega arith; so-far = refl }
-
-  module _ (fine : Bool) (i : ℕ) (at : Gathered gs fine i) where
-    pub gather-on : i + 1 ≤ length gs → (b : Bool) → b ≡ when (within 1 mostGenerations (getD gs i 0)) fine false → Gathered gs b (i + 1)
-    unfolding byte
-    gather-on h b w = record { far = h; so-far = w ∙ rw (at .so-far, below-step i (one gs)) }
-
-    pub gather-ends : length gs ≤ i → fine ≡ below (length gs) (one gs)
-    gather-ends h = let l = at .far in let e : i ≡ length gs = omega arith in rw (← e) (at .so-far)
-
--- as many as there are volumes
-pub generations-by : (top : ℕ) (gs : List ℕ) → length gs ≡ top → (b : Bool) → b ≡ below (length gs) (one gs) → b ≡ generationsSound top gs
+pub generations-by : (top : ℕ) (gs : List ℕ) → length gs ≡ top → (b : Bool) → b ≡ below (length gs) (λ i. within 1 mostGenerations (byte gs i)) → b ≡ generationsSound top gs
 unfolding generationsSound
 generations-by top gs e b w = all-eq-go _ _ _ _ e (all-last _ _ (rw e at w))
 

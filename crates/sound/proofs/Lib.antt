@@ -4,6 +4,8 @@ pub mod Bits
 pub mod Once
 pub mod Holding
 pub mod Shelved
+pub mod Gathered
 pub mod Generations
+pub mod Searching
 pub mod Suited
 pub mod Whole

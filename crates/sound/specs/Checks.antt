@@ -8,8 +8,8 @@ use lib.Bits.{bitOr}
 use lib.Dec.{eqb, leb}
 use Rattle.rules.specs.Choice.{when, anyOf, allOf, differ, below}
 use Rattle.rules.specs.Bytes.{byte}
-use Rattle.rules.specs.Tables.{elementSize, volume, source, mark, holder, id, zeroByte, emptyShelves}
-use Rattle.rules.specs.Roster.{Range, Slot, kindAt, kindOf, placeOf, transport, storage}
+use Rattle.rules.specs.Tables.{elementSize, behindLast, searchType, nextAddress, volume, source, mark, holder, id, zeroByte, emptyShelves}
+use Rattle.rules.specs.Roster.{Range, Slot, kindAt, kindOf, placeOf, transport, storage, drive}
 use Rattle.rules.specs.Fitting.{accepts}
 use Rattle.rules.specs.Sound.{markSound, stockSound, holdSound, once}
 use Rattle.tables.specs.Ranges.{lies}
@@ -112,3 +112,9 @@ suitedTo elements generations masks p n = below n (λ k. suitedAt elements gener
 unfoldable pub drivesBy : List Slot → Range → List ℕ → List ℕ → List ℕ → Bool
 drivesBy ss drives elements generations masks =
     allOf (eqb (length masks) (drives .count) ∷ suitedTo elements generations masks (placeOf ss (drives .first)) (drives .count) ∷ [])
+
+-- ---- the search
+
+-- the type and the next address of one that has a known action
+unfoldable pub fieldsSound : List ℕ → Bool
+fieldsSound search = allOf (leb (searchType search) drive ∷ leb (nextAddress search) behindLast ∷ [])

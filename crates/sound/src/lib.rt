@@ -2,6 +2,7 @@
 mod drives;
 pub mod element;
 mod marks;
+mod search;
 
 use tables::Range;
 ghost use mathlib.Core.Path.{_≡_};
@@ -68,14 +69,17 @@ fn generations_sound(top: usize, generations: &[u8]) -> bool
     all_within(generations)
 }
 
-// The tables that no call writes, as far as they do not hang on the others.
-fn rest_sound(tags: &[u8], blank: &[u8], generations: &[u8]) -> bool
-    ensures { λ r. ⌜ ((masks : List ℕ) → r ≡ restSound (others (now (tags .entry)) (now (blank .entry)) (now (generations .entry)) masks)) ⌝ }
+// The tables beside the head and the elements, as far as they do not hang on these.
+fn rest_sound(tags: &[u8], blank: &[u8], generations: &[u8], search: &[u8]) -> bool
+    ensures { λ r. ⌜ ((masks : List ℕ) → r ≡ restSound (others (now (tags .entry)) (now (blank .entry)) (now (generations .entry)) masks (now (search .entry)))) ⌝ }
 {
     if !labels_sound(tags, blank) {
         return false;
     }
-    generations_sound(tables::volumes(tags), generations)
+    if !generations_sound(tables::volumes(tags), generations) {
+        return false;
+    }
+    search::search_sound(search)
 }
 
 // What the check tells, and the runs of sound tables, which callers look up by.
@@ -94,7 +98,7 @@ fn no_runs() -> [Range; 4] {
     [none, none, none, none]
 }
 
-// The head of these ranges, then what no call writes, then the elements by the runs of the ranges, with the number that the panel shows, then the drives.
+// The head of these ranges, then what does not hang on it, then the elements by the runs of the ranges, with the number that the panel shows, then the drives.
 fn parts_sound(
     rs: [Range; 4],
     runs: [Range; 4],
@@ -104,16 +108,17 @@ fn parts_sound(
     blank: &[u8],
     generations: &[u8],
     masks: &[u8],
+    search: &[u8],
 ) -> bool
     requires { ⌜ length (now head) ≡ headSize ⌝ }
     requires { ⌜ meant rs ≡ ranges (now head) ⌝ }
     requires { ⌜ Runs runs (now head) ⌝ }
-    ensures { λ r. ⌜ r ≡ sound (lent (now (head .entry)) (now (elements .entry)) (others (now (tags .entry)) (now (blank .entry)) (now (generations .entry)) (now (masks .entry)))) ⌝ }
+    ensures { λ r. ⌜ r ≡ sound (lent (now (head .entry)) (now (elements .entry)) (others (now (tags .entry)) (now (blank .entry)) (now (generations .entry)) (now (masks .entry)) (now (search .entry)))) ⌝ }
 {
     if !sound_head::sound(rs, runs, head) {
         return false;
     }
-    if !rest_sound(tags, blank, generations) {
+    if !rest_sound(tags, blank, generations, search) {
         return false;
     }
     if !element::elements_sound(
@@ -137,8 +142,9 @@ pub fn check(
     blank: &[u8],
     generations: &[u8],
     masks: &[u8],
+    search: &[u8],
 ) -> Checked
-    ensures { λ r. ⌜ r .sound ≡ sound (lent (now (head .entry)) (now (elements .entry)) (others (now (tags .entry)) (now (blank .entry)) (now (generations .entry)) (now (masks .entry)))) ⌝ }
+    ensures { λ r. ⌜ r .sound ≡ sound (lent (now (head .entry)) (now (elements .entry)) (others (now (tags .entry)) (now (blank .entry)) (now (generations .entry)) (now (masks .entry)) (now (search .entry)))) ⌝ }
     ensures { λ r. ⌜ (r .sound ≡ true → Runs (r .runs) (now (head .entry))) ⌝ }
 {
     if head.len() != layout::HEAD_SIZE {
@@ -149,6 +155,16 @@ pub fn check(
     }
     let rs = tables::ranges(head);
     let runs = tables::sorted(rs);
-    let sound = parts_sound(rs, runs, head, elements, tags, blank, generations, masks);
+    let sound = parts_sound(
+        rs,
+        runs,
+        head,
+        elements,
+        tags,
+        blank,
+        generations,
+        masks,
+        search,
+    );
     Checked { sound, runs }
 }

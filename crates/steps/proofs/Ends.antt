@@ -29,7 +29,7 @@ attention-fits t h buffer rest n = rw (ne-eqb (attention (t .head) h) 0 n) (rw (
 
 -- ---- the answer g of steps 1 to 4
 
-module _ (op : Operation) (t : Tables) (h : ℕ) (block list buffer : List ℕ) (g : Admission) (is : g ≡ admission op (t .head) h block list) where
+module _ (op : Operation) (t : Tables) (h : ℕ) (block list buffer : List ℕ) (g : Admission) (is : g ≡ admission op (t .head) (t .elements) h block list) where
   by : (a : Admission) → g ≡ a → onAdmission t h a (act (meaning op) t h block list) ≡ stepsOf (meaning op) t h block list
   unfolding stepsOf
   by a e = sym (admission-is op t h block list g is (act (meaning op) t h block list) ∙ rw e refl)

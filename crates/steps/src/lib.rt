@@ -40,14 +40,15 @@ fn command<'a>(
     blank: &'a [u8],
     generations: &'a [u8],
     masks: &'a [u8],
+    search: &mut [u8],
     host: u8,
     block: &[u8],
     parameters: &[u8],
     answer: &mut [u8],
 ) -> Reply
-    requires { ⌜ Served op runs (now head) (now elements) (others (now tags) (now blank) (now generations) (now masks)) host (now block) ⌝ }
+    requires { ⌜ Served op runs (now head) (now elements) (others (now tags) (now blank) (now generations) (now masks) (now search)) host (now block) ⌝ }
     requires { ⌜ fault (meaning op) (now head) (now block) (now parameters) ≡ 0 ⌝ }
-    ensures { λ r. ⌜ ended r (lent (now (head .exit)) (now (elements .exit)) (others (now (tags .entry)) (now (blank .entry)) (now (generations .entry)) (now (masks .entry)))) (now (answer .exit)) ≡ outcome (lent (now (head .entry)) (now (elements .entry)) (others (now (tags .entry)) (now (blank .entry)) (now (generations .entry)) (now (masks .entry)))) (now (answer .entry)) (fits (now (answer .entry)) (act (meaning op) (lent (now (head .entry)) (now (elements .entry)) (others (now (tags .entry)) (now (blank .entry)) (now (generations .entry)) (now (masks .entry)))) host (now (block .entry)) (now (parameters .entry)))) ⌝ }
+    ensures { λ r. ⌜ ended r (lent (now (head .exit)) (now (elements .exit)) (others (now (tags .entry)) (now (blank .entry)) (now (generations .entry)) (now (masks .entry)) (now (search .exit)))) (now (answer .exit)) ≡ outcome (lent (now (head .entry)) (now (elements .entry)) (others (now (tags .entry)) (now (blank .entry)) (now (generations .entry)) (now (masks .entry)) (now (search .entry)))) (now (answer .entry)) (fits (now (answer .entry)) (act (meaning op) (lent (now (head .entry)) (now (elements .entry)) (others (now (tags .entry)) (now (blank .entry)) (now (generations .entry)) (now (masks .entry)) (now (search .entry)))) host (now (block .entry)) (now (parameters .entry)))) ⌝ }
 {
     match op {
         Operation::TestUnitReady => order::good(head, host),
@@ -84,6 +85,18 @@ fn command<'a>(
             answer,
         ),
         Operation::ModeSense => mode::mode_sense(head, host, block, answer),
+        Operation::SendVolumeTag => search::send_volume_tag(head, search, host, block, parameters),
+        Operation::RequestVolumeElementAddress => finding::request_volume_element_address(
+            runs,
+            head,
+            elements,
+            tags,
+            blank,
+            search,
+            host,
+            block,
+            answer,
+        ),
         Operation::Unknown => order::refuse(head, host, Cause::InvalidOperation),
     }
 }
@@ -98,15 +111,16 @@ pub fn steps<'a>(
     blank: &'a [u8],
     generations: &'a [u8],
     masks: &'a [u8],
+    search: &mut [u8],
     host: u8,
     block: &[u8],
     parameters: &[u8],
     answer: &mut [u8],
 ) -> Reply
-    requires { ⌜ Served op runs (now head) (now elements) (others (now tags) (now blank) (now generations) (now masks)) host (now block) ⌝ }
-    ensures { λ r. ⌜ ended r (lent (now (head .exit)) (now (elements .exit)) (others (now (tags .entry)) (now (blank .entry)) (now (generations .entry)) (now (masks .entry)))) (now (answer .exit)) ≡ outcome (lent (now (head .entry)) (now (elements .entry)) (others (now (tags .entry)) (now (blank .entry)) (now (generations .entry)) (now (masks .entry)))) (now (answer .entry)) (fits (now (answer .entry)) (stepsOf (meaning op) (lent (now (head .entry)) (now (elements .entry)) (others (now (tags .entry)) (now (blank .entry)) (now (generations .entry)) (now (masks .entry)))) host (now (block .entry)) (now (parameters .entry)))) ⌝ }
+    requires { ⌜ Served op runs (now head) (now elements) (others (now tags) (now blank) (now generations) (now masks) (now search)) host (now block) ⌝ }
+    ensures { λ r. ⌜ ended r (lent (now (head .exit)) (now (elements .exit)) (others (now (tags .entry)) (now (blank .entry)) (now (generations .entry)) (now (masks .entry)) (now (search .exit)))) (now (answer .exit)) ≡ outcome (lent (now (head .entry)) (now (elements .entry)) (others (now (tags .entry)) (now (blank .entry)) (now (generations .entry)) (now (masks .entry)) (now (search .entry)))) (now (answer .entry)) (fits (now (answer .entry)) (stepsOf (meaning op) (lent (now (head .entry)) (now (elements .entry)) (others (now (tags .entry)) (now (blank .entry)) (now (generations .entry)) (now (masks .entry)) (now (search .entry)))) host (now (block .entry)) (now (parameters .entry)))) ⌝ }
 {
-    match admission::judge(op, head, host, block, parameters) {
+    match admission::judge(op, head, elements, host, block, parameters) {
         Admission::Pending => report_attention(head, host),
         Admission::Held => order::conflict(head, host),
         Admission::Faulty(at) => order::refuse(head, host, Cause::InvalidField(at)),
@@ -119,6 +133,7 @@ pub fn steps<'a>(
             blank,
             generations,
             masks,
+            search,
             host,
             block,
             parameters,

@@ -1,6 +1,6 @@
 /* The rules of the library in plain C, written for speed: what the command core is timed beside. It answers exactly what the core answers.
  * One loop judges the generations, one the elements, where it counts the empty shelves and holds each full drive to its mask; an address is found from the ranges; RESERVE keeps a mark for each place; a move adds
- * to the number of empty shelves and takes from it. A replay judges the tables and reads the ranges once, and makes no answer. */
+ * to the number of empty shelves and takes from it. A search compares labels in words, eight bytes at a time. A replay judges the tables and reads the ranges once, and makes no answer. */
 #include "plain.h"
 #include <stdbool.h>
 #include <string.h>
@@ -11,6 +11,7 @@ enum { UNIT = 16, MASK = 17, RECORDS = 18, RECORD_BYTES = 5, FREE = 58 };
 enum { VOLUME = 0, SOURCE = 2, HOLDER = 4, ID = 5, MARK = 6, ZERO = 7 };
 enum { NOWHERE = MOST_ELEMENTS };
 enum { MODE_MOST_BYTES = 256 };
+enum { TEMPLATE_WORDS = SMC_TEMPLATE_SIZE / 8, MOST_NEXT = 0x10000 };
 
 typedef struct {
     unsigned first, count, kind, place; /* place: where its elements begin in the table */
@@ -19,6 +20,7 @@ typedef struct {
 typedef struct {
     uint8_t *head, *elements;
     const uint8_t *tags, *blank, *generations, *masks;
+    uint8_t *search;
     unsigned count, volumes, filled;
     range ranges[4]; /* those with elements, in order of address */
 } library;
@@ -44,6 +46,8 @@ static inline void put24(uint8_t *at, unsigned value)
     at[0] = (uint8_t)(value >> 16);
     put16(at + 1, value);
 }
+
+static inline unsigned get24(const uint8_t *at) { return (unsigned)at[0] << 16 | get16(at + 1); }
 
 static inline unsigned min(unsigned a, unsigned b) { return a < b ? a : b; }
 
@@ -148,14 +152,26 @@ static bool elements_sound(const library *l)
     return empty_shelves == get16(l->head + FREE);
 }
 
-#define LENT head, head_len, elements, elements_len, tags, tags_len, blank, blank_len, generations, generations_len, masks, masks_len
+static bool search_sound(const library *l)
+{
+    const uint8_t *s = l->search;
+    uint8_t any = 0;
+    if (s[SMC_SEARCH_ACTION] == SMC_FIND_IN_RANGE || s[SMC_SEARCH_ACTION] == SMC_FIND_ANY_NUMBER)
+        return s[SMC_SEARCH_TYPE] <= DRIVE && get24(s + SMC_SEARCH_NEXT) <= MOST_NEXT;
+    for (unsigned at = 0; at < SMC_SEARCH_SIZE; at++)
+        any |= s[at];
+    return any == 0;
+}
+
+#define LENT                                                                                                                                \
+    head, head_len, elements, elements_len, tags, tags_len, blank, blank_len, generations, generations_len, masks, masks_len, search, search_len
 
 static inline bool read_tables(library *l, SMC_TABLES)
 {
-    *l = (library){.head = head, .elements = elements, .tags = tags, .blank = blank, .generations = generations, .masks = masks,
+    *l = (library){.head = head, .elements = elements, .tags = tags, .blank = blank, .generations = generations, .masks = masks, .search = search,
                    .volumes = (unsigned)(tags_len / SMC_TAG_SIZE)};
     return head_len == SMC_HEAD_SIZE && blank_len == SMC_TAG_SIZE && tags_len <= MOST_VOLUMES * SMC_TAG_SIZE &&
-           tags_len % SMC_TAG_SIZE == 0 && generations_len == l->volumes && read_ranges(l) &&
+           tags_len % SMC_TAG_SIZE == 0 && generations_len == l->volumes && search_len == SMC_SEARCH_SIZE && search_sound(l) && read_ranges(l) &&
            elements_len == (size_t)SMC_ELEMENT_SIZE * l->count && masks_len == get16(head + 4 * (DRIVE - 1) + 2) && hosts_sound(l) &&
            generations_sound(l) && elements_sound(l);
 }
@@ -206,13 +222,22 @@ static smc_reply request_sense(library *l, const request *q)
     return (smc_reply){.count = count};
 }
 
+static inline bool others(const uint8_t *e, const request *q) { return e[HOLDER] && e[HOLDER] != q->host; }
+
+static inline bool others_hold(const library *l, const request *q)
+{
+    for (const uint8_t *e = l->elements, *end = e + SMC_ELEMENT_SIZE * l->count; e < end; e += SMC_ELEMENT_SIZE)
+        if (others(e, q))
+            return true;
+    return false;
+}
+
 static smc_reply reserve_unit(library *l, const request *q)
 {
     if (q->parameters_len != 0)
         return INVALID_FIELD;
-    for (const uint8_t *e = l->elements, *end = e + SMC_ELEMENT_SIZE * l->count; e < end; e += SMC_ELEMENT_SIZE)
-        if (e[HOLDER] && e[HOLDER] != q->host)
-            return CONFLICT;
+    if (others_hold(l, q))
+        return CONFLICT;
     l->head[UNIT] = (uint8_t)q->host;
     return GOOD;
 }
@@ -270,8 +295,6 @@ static smc_reply prevent_allow(library *l, const request *q)
     l->head[MASK] = q->block[4] ? l->head[MASK] | bit : l->head[MASK] & (uint8_t)~bit;
     return GOOD;
 }
-
-static inline bool others(const uint8_t *e, const request *q) { return e[HOLDER] && e[HOLDER] != q->host; }
 
 /* The record of the transport that is named, null for none. 0 names the lowest that no other host holds; where there is none, it is the last, whose holder
  * step 6 then finds. */
@@ -382,6 +405,13 @@ static inline uint8_t *describe(const library *l, uint8_t *out, const uint8_t *e
     return out + 52;
 }
 
+static inline uint8_t *page_header(uint8_t *out, unsigned kind, bool tags, unsigned size, unsigned descriptors)
+{
+    memcpy(out, (uint8_t[5]){(uint8_t)kind, tags ? 0x80 : 0, 0, (uint8_t)size, 0}, 5);
+    put24(out + 5, size * descriptors);
+    return out + 8;
+}
+
 static smc_reply read_element_status(library *l, const request *q)
 {
     const uint8_t *b = q->block;
@@ -421,12 +451,136 @@ static smc_reply read_element_status(library *l, const request *q)
     out = returned > 8 ? q->answer + 8 : NULL;
     for (unsigned p = 0; out && p < pages && shown[p]; p++) {
         const uint8_t *e = l->elements + SMC_ELEMENT_SIZE * page[p].place;
-        memcpy(out, (uint8_t[5]){(uint8_t)page[p].kind, tags ? 0x80 : 0, 0, (uint8_t)size, 0}, 5);
-        put24(out + 5, size * page[p].count);
-        out += 8;
+        out = page_header(out, page[p].kind, tags, size, page[p].count);
         for (unsigned i = 0; i < shown[p]; i++, e += SMC_ELEMENT_SIZE)
             out = describe(l, out, e, page[p].first + i, page[p].kind, tags);
     }
+    GOOD;
+    return (smc_reply){.count = returned};
+}
+
+/* ---- find by label ---- */
+
+static smc_reply send_volume_tag(library *l, const request *q)
+{
+    const uint8_t *b = q->block, *list = q->parameters;
+    uint8_t *s = l->search;
+    if (q->parameters_len != SMC_TAG_LIST_SIZE)
+        return LIST_LENGTH;
+    if (get16(list + 32) | get16(list + 36))
+        return LIST_RESERVED;
+    memcpy(s, list, SMC_TEMPLATE_SIZE);
+    s[SMC_SEARCH_TYPE] = b[1] & 0x0F;
+    s[SMC_SEARCH_ACTION] = b[5];
+    memcpy(s + SMC_SEARCH_LEAST, list + SMC_TAG_LIST_LEAST, 2);
+    memcpy(s + SMC_SEARCH_GREATEST, list + SMC_TAG_LIST_GREATEST, 2);
+    put24(s + SMC_SEARCH_NEXT, get16(b + 2));
+    return GOOD;
+}
+
+/* What is compared of a label, in words: the bits of bytes that are no wild card and stand before the first '*'. */
+typedef struct {
+    uint64_t bits[TEMPLATE_WORDS], compared[TEMPLATE_WORDS];
+    unsigned least, beyond; /* sequence numbers: least, and how many from there on */
+} pattern;
+
+static pattern pattern_of(const uint8_t *s)
+{
+    uint8_t compared[SMC_TEMPLATE_SIZE] = {0};
+    const bool ranged = s[SMC_SEARCH_ACTION] == SMC_FIND_IN_RANGE;
+    const unsigned least = ranged ? get16(s + SMC_SEARCH_LEAST) : 0, greatest = ranged ? get16(s + SMC_SEARCH_GREATEST) : 0xFFFF;
+    pattern w = {.least = least, .beyond = greatest < least ? 0 : greatest - least + 1};
+    for (unsigned at = 0; at < SMC_TEMPLATE_SIZE && s[at] != SMC_ANY_STRING; at++)
+        compared[at] = s[at] == SMC_ANY_CHARACTER ? 0 : 0xFF;
+    memcpy(w.compared, compared, sizeof compared);
+    memcpy(w.bits, s, SMC_TEMPLATE_SIZE);
+    return w;
+}
+
+static inline bool matches(const library *l, const pattern *w, unsigned volume)
+{
+    const uint8_t *label = l->tags + SMC_TAG_SIZE * (volume - 1);
+    uint64_t shown[TEMPLATE_WORDS], differs = 0;
+    memcpy(shown, label, sizeof shown);
+    for (unsigned at = 0; at < TEMPLATE_WORDS; at++)
+        differs |= (shown[at] ^ w->bits[at]) & w->compared[at];
+    return !differs && get16(label + SMC_LABEL_SEQUENCE) - w->least < w->beyond;
+}
+
+/* The elements of a range that may be told, from so many places on, at most so many: their places in the range, and how many they are. */
+static inline unsigned look(const library *l, const pattern *w, range p, unsigned from, unsigned most, uint16_t *found)
+{
+    const uint8_t *e = l->elements + SMC_ELEMENT_SIZE * (p.place + from);
+    unsigned many = 0;
+    for (; from < p.count && many < most; from++, e += SMC_ELEMENT_SIZE)
+        if (get16(e + VOLUME) && matches(l, w, get16(e + VOLUME)))
+            found[many++] = (uint16_t)from;
+    return many;
+}
+
+/* The elements found, page by page, from the answer's ninth byte on; so many of each page are shown. */
+static inline void tell_found(const library *l, uint8_t *out, const range *page, const unsigned *shown, unsigned pages, const uint16_t *at, bool tags)
+{
+    const unsigned size = tags ? 52 : 16;
+    for (unsigned p = 0; p < pages && shown[p]; at += page[p++].count) {
+        const uint8_t *first = l->elements + SMC_ELEMENT_SIZE * page[p].place;
+        out = page_header(out, page[p].kind, tags, size, page[p].count);
+        for (unsigned i = 0; i < shown[p]; i++)
+            out = describe(l, out, first + SMC_ELEMENT_SIZE * at[i], page[p].first + at[i], page[p].kind, tags);
+    }
+}
+
+/* In a replay there is no answer; what would have been told counts as told. */
+static smc_reply request_address(library *l, const request *q)
+{
+    const uint8_t *b = q->block, *s = l->search;
+    const bool tags = b[1] & 0x10;
+    const unsigned type = b[1] & 0x0F, of = s[SMC_SEARCH_TYPE], start = get16(b + 2), next = get24(s + SMC_SEARCH_NEXT), from = start > next ? start : next;
+    const unsigned size = tags ? 52 : 16, allocation = get16(b + 7);
+    unsigned left = s[SMC_SEARCH_ACTION] ? get16(b + 4) : 0, pages = 0, chosen = 0, counted = 0, returned = 8, behind = next;
+    const pattern w = pattern_of(s);
+    bool open = true; /* nothing was cut yet */
+    range page[4];
+    unsigned shown[4];
+    uint16_t found[MOST_ELEMENTS], *at = found; /* by page, one behind the other */
+    uint8_t header[8] = {[SMC_LISTING_ACTION] = s[SMC_SEARCH_ACTION]};
+    for (unsigned r = 0; r < l->filled; r++) {
+        range p = l->ranges[r];
+        const unsigned skipped = from > p.first ? min(from - p.first, p.count) : 0;
+        if ((type && type != p.kind) || (of && of != p.kind))
+            continue;
+        const unsigned many = look(l, &w, p, skipped, left, at);
+        if (many == 0)
+            continue;
+        if (chosen == 0)
+            put16(header, p.first + at[0]);
+        left -= many;
+        chosen += many;
+        counted += 8 + size * many;
+        shown[pages] = open && allocation >= returned + 8 + size ? min(many, (allocation - returned - 8) / size) : 0;
+        if (shown[pages]) {
+            returned += 8 + size * shown[pages];
+            behind = p.first + at[shown[pages] - 1] + 1;
+        }
+        open = shown[pages] == many;
+        p.count = many;
+        page[pages++] = p;
+        at += many;
+    }
+    put16(header + 2, chosen);
+    put24(header + 5, counted);
+    if (allocation < 8)
+        returned = allocation;
+    if (q->kept && q->answer_len < returned)
+        return refused(SMC_ANSWER_TOO_SHORT);
+    if (chosen)
+        put24(l->search + SMC_SEARCH_NEXT, behind);
+    if (!q->kept)
+        return GOOD;
+    if (returned > 0)
+        memcpy(q->answer, header, min(returned, 8));
+    if (returned > 8)
+        tell_found(l, q->answer + 8, page, shown, pages, found, tags);
     GOOD;
     return (smc_reply){.count = returned};
 }
@@ -496,8 +650,8 @@ static inline smc_reply serve(library *l, const request *q)
         return refused(SMC_BLOCK_LENGTH);
     const uint8_t first = b[0];
     switch (first) {
-    case 0x00: case 0x03: case 0x16: case 0x17: case 0x1A: case 0x1E: case 0xA5: case 0xA6: case 0xB8:
-        if (q->parameters_len != (first == 0x16 ? get16(b + 3) : 0))
+    case 0x00: case 0x03: case 0x16: case 0x17: case 0x1A: case 0x1E: case 0xA5: case 0xA6: case 0xB5: case 0xB6: case 0xB8:
+        if (q->parameters_len != (first == 0x16 ? get16(b + 3) : first == 0xB6 ? get16(b + 8) : 0))
             return refused(SMC_PARAMETER_LENGTH);
         break;
     default:
@@ -510,6 +664,8 @@ static inline smc_reply serve(library *l, const request *q)
             return ends(l, host, SMC_CHECK_CONDITION, 6, asc, ascq);
         }
         if (first != 0x17 && l->head[UNIT] && l->head[UNIT] != host)
+            return CONFLICT;
+        if ((first == 0xB5 || first == 0xB6) && others_hold(l, q))
             return CONFLICT;
     }
     switch (first) {
@@ -529,6 +685,10 @@ static inline smc_reply serve(library *l, const request *q)
         return (b[1] & 0x1F) | b[8] | b[9] | b[10] | b[11] ? INVALID_FIELD : move(l, q);
     case 0xA6:
         return (b[1] & 0x1F) | b[10] | b[11] ? INVALID_FIELD : exchange(l, q);
+    case 0xB5:
+        return b[6] | b[9] | b[10] | b[11] || (b[1] & 0x0F) > 4 ? INVALID_FIELD : request_address(l, q);
+    case 0xB6:
+        return (b[1] & 0x10) | b[4] | b[6] | b[7] | b[10] | b[11] || (b[1] & 0x0F) > 4 || (b[5] != 1 && b[5] != 5) ? INVALID_FIELD : send_volume_tag(l, q);
     default:
         return b[6] | b[10] | b[11] || (b[1] & 0x0F) > 4 ? INVALID_FIELD : read_element_status(l, q);
     }
@@ -597,6 +757,7 @@ static smc_reply export(library *l, uint32_t address)
 static smc_reply reset(library *l)
 {
     l->head[UNIT] = l->head[MASK] = 0;
+    memset(l->search, 0, SMC_SEARCH_SIZE);
     for (unsigned host = 0; host < HOSTS; host++)
         memcpy(l->head + RECORDS + RECORD_BYTES * host, (uint8_t[RECORD_BYTES]){0, 0, 0, 0x29, 0x00}, RECORD_BYTES);
     for (unsigned place = 0; place < l->count; place++)

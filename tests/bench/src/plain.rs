@@ -11,7 +11,7 @@ declare_entries! {
 }
 
 static PLAIN: Entries = Entries {
-    commands: [plain_command; 10],
+    commands: [plain_command; 12],
     import: plain_import,
     export: plain_export,
     reset: plain_reset,

@@ -5,8 +5,9 @@ use std::hint::black_box;
 use core_ffi::{EmptySlices, Entries};
 use differential::call::Call;
 use differential::compare::{differences, make};
-use differential::generate::calls::{mode_block, named_entry, read_block};
-use differential::scene::{Scene, HEAD_LENGTH};
+use differential::generate::calls::{mode_block, named_entry, read_block, request_block};
+use differential::generate::searches::{list, send_block};
+use differential::scene::{Scene, HEAD_LENGTH, SEARCH_LENGTH, TEMPLATE_LENGTH};
 use reference::{Implementation, Reference, Request, TableBytes};
 
 const TRANSPORT: u16 = 0x0001;
@@ -14,6 +15,7 @@ const PORT: u16 = 0x0010;
 const DRIVE: u16 = 0x0100;
 pub(crate) const FIRST_SHELF: u16 = 0x1000;
 const MOST_DESCRIPTORS: u16 = 32;
+const EVERY_CHARACTER: [u8; TEMPLATE_LENGTH] = [b'?'; TEMPLATE_LENGTH];
 
 /// The small library's addresses with as many shelves as make up the size. Every second shelf is full, and every
 /// second volume came from the shelf beside it. The volumes are of all generations, and the drive takes them.
@@ -45,11 +47,22 @@ pub fn library(elements: u16) -> TableBytes {
     TableBytes {
         head,
         elements: table,
-        tags: (0..36 * usize::from(elements)).map(|at| at as u8).collect(),
+        tags: (0..elements).flat_map(label).collect(),
         generations: (0..elements).map(|at| (at % 8) as u8 + 1).collect(),
         masks: vec![0xFF],
         ..Scene::small_library().tables
     }
+}
+
+/// The reels of a film, every fourth; any bytes for the others.
+fn label(volume: u16) -> Vec<u8> {
+    let mut label: Vec<u8> = (0..36)
+        .map(|at| (at + 36 * usize::from(volume)) as u8)
+        .collect();
+    if volume.is_multiple_of(4) {
+        label[..8].copy_from_slice(format!("FILM{volume:04}").as_bytes());
+    }
+    label
 }
 
 /// Calls that are made one after the other, over and over: they never fail, and the tables need no putting back.
@@ -109,6 +122,7 @@ pub fn rows(elements: u16) -> Vec<Row> {
     let swap = carry(0xA6, [shelf(0), shelf(2), shelf(0)]);
     let sense = command(vec![0x03, 0, 0, 0, 18, 0], Vec::new(), 18);
     let pages = command(mode_block(0, 0x3F, 255), Vec::new(), 255);
+    let all = vec![send(&EVERY_CHARACTER), find(0xFFFF)];
     let calls = [
         ("TEST UNIT READY", vec![command(vec![0; 6], Vec::new(), 0)]),
         ("MOVE", vec![there, back]),
@@ -118,6 +132,8 @@ pub fn rows(elements: u16) -> Vec<Row> {
         ("READ all with tags", read(0xFF_FFFF)),
         ("READ, allocation 8", read(8)),
         ("MODE SENSE 3Fh", vec![pages]),
+        ("B6h", vec![send(&begins_so())]),
+        ("B6h, B5h all with tags", all),
     ];
     let tables = library(elements);
     let row = |(name, calls)| Row {
@@ -125,7 +141,53 @@ pub fn rows(elements: u16) -> Vec<Row> {
         calls,
         tables: tables.clone(),
     };
-    calls.map(row).into()
+    let mut rows = calls.map(row).to_vec();
+    rows.extend(searches(&tables));
+    rows
+}
+
+/// With room for the header alone nothing is told: the search stays at its start.
+fn searches(tables: &TableBytes) -> [Row; 3] {
+    let templates = [
+        ("B5h, no search", None),
+        ("B5h, FILM*", Some(begins_so())),
+        ("B5h, 32 characters", Some(EVERY_CHARACTER)),
+    ];
+    templates.map(|(name, template)| Row {
+        name,
+        calls: vec![find(8)],
+        tables: searching(tables, template),
+    })
+}
+
+fn begins_so() -> [u8; TEMPLATE_LENGTH] {
+    let mut template = [b' '; TEMPLATE_LENGTH];
+    template[..5].copy_from_slice(b"FILM*");
+    template
+}
+
+/// REQUEST VOLUME ELEMENT ADDRESS of all, with tags.
+fn find(allocation: usize) -> Call {
+    let block = request_block(0x10, 0, 0xFFFF, allocation);
+    command(block, Vec::new(), 26_664)
+}
+
+/// SEND VOLUME TAG for any type and any sequence number, all of which are compared.
+fn send(template: &[u8; TEMPLATE_LENGTH]) -> Call {
+    let list = list(template, [0, 0xFFFF]);
+    command(send_block(0, 0, 1, list.len()), list, 0)
+}
+
+/// The tables with a search at its start.
+fn searching(tables: &TableBytes, template: Option<[u8; TEMPLATE_LENGTH]>) -> TableBytes {
+    let search = match template {
+        None => vec![0; SEARCH_LENGTH],
+        Some(template) => [&template[..], &[0, 1, 0, 0, 0xFF, 0xFF, 0, 0, 0]].concat(),
+    };
+    TableBytes {
+        search,
+        ..tables.clone()
+    }
 }
 
 impl Row {
@@ -141,8 +203,7 @@ impl Row {
             if !good || !differences(&expected, &found).is_empty() {
                 return false;
             }
-            tables.head = found.head().to_vec();
-            tables.elements = found.elements().to_vec();
+            found.carry_on(&mut tables);
         }
         true
     }

@@ -44,13 +44,13 @@ impl From<Replayed> for reference::Replayed {
     }
 }
 
-/// A pointer and a length for each of head, elements, tags, blank label, generations and masks, and what follows them.
+/// A pointer and a length for each of head, elements, tags, blank label, generations, masks and search, and what follows them.
 macro_rules! entry {
     ($($more:ty),*) => { entry!($($more),* => Reply) };
     ($($more:ty),* => $returned:ty) => {
         unsafe extern "C" fn(
             *mut u8, usize, *mut u8, usize, *const u8, usize, *const u8, usize,
-            *const u8, usize, *const u8, usize, $($more),*
+            *const u8, usize, *const u8, usize, *mut u8, usize, $($more),*
         ) -> $returned
     };
 }
@@ -68,7 +68,7 @@ pub type ReplayEntry = entry!(*const u8, usize, u32, u32 => Replayed);
 /// One implementation of the C interface.
 pub struct Entries {
     /// In the order of [`reference::Entry::ALL`].
-    pub commands: [CommandEntry; 10],
+    pub commands: [CommandEntry; 12],
     pub import: ImportEntry,
     pub export: ExportEntry,
     pub reset: ResetEntry,
@@ -87,6 +87,7 @@ macro_rules! declare_entries {
                 blank: *const u8, blank_len: usize,
                 generations: *const u8, generations_len: usize,
                 masks: *const u8, masks_len: usize,
+                search: *mut u8, search_len: usize,
                 $(_: $more),*
             ) -> $returned;)*
         }
@@ -109,6 +110,7 @@ macro_rules! call_entry {
                 empty.read($tables.blank), $tables.blank.len(),
                 empty.read($tables.generations), $tables.generations.len(),
                 empty.read($tables.masks), $tables.masks.len(),
+                empty.write($tables.search), $tables.search.len(),
                 $($more),*
             )
         }
@@ -126,6 +128,8 @@ declare_entries! {
     smc_exchange_medium(u32, *const u8, usize, *const u8, usize, *mut u8, usize) -> Reply;
     smc_read_element_status(u32, *const u8, usize, *const u8, usize, *mut u8, usize) -> Reply;
     smc_mode_sense(u32, *const u8, usize, *const u8, usize, *mut u8, usize) -> Reply;
+    smc_send_volume_tag(u32, *const u8, usize, *const u8, usize, *mut u8, usize) -> Reply;
+    smc_request_volume_element_address(u32, *const u8, usize, *const u8, usize, *mut u8, usize) -> Reply;
     smc_import(u32, u32) -> Reply;
     smc_export(u32) -> Reply;
     smc_reset() -> Reply;
@@ -144,6 +148,8 @@ pub(crate) static CORE: Entries = Entries {
         smc_exchange_medium,
         smc_read_element_status,
         smc_mode_sense,
+        smc_send_volume_tag,
+        smc_request_volume_element_address,
     ],
     import: smc_import,
     export: smc_export,

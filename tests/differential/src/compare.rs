@@ -35,6 +35,17 @@ impl Made {
         self.tables[1].content()
     }
 
+    pub fn search(&self) -> &[u8] {
+        self.tables[6].content()
+    }
+
+    /// The tables as the call leaves them: head, elements and search; the others are only read.
+    pub fn carry_on(&self, tables: &mut TableBytes) {
+        tables.head = self.head().to_vec();
+        tables.elements = self.elements().to_vec();
+        tables.search = self.search().to_vec();
+    }
+
     pub fn answer(&self) -> &[u8] {
         self.request[3].content()
     }

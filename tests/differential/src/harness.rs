@@ -5,7 +5,7 @@ use std::time::{Duration, Instant};
 use reference::{Implementation, Reply, TableBytes};
 
 use crate::call::{Call, Ending};
-use crate::compare::{describe, differences, make, Made};
+use crate::compare::{describe, differences, make};
 use crate::guarded::MARGIN;
 use crate::random::Random;
 use crate::tally::{Outcome, Tally};
@@ -111,7 +111,7 @@ impl<'a> Harness<'a> {
         self.report.failed += usize::from(!agrees);
         self.report.tally.count(tables, call, &expected);
         self.progress.tell(self.report.calls, self.limits.calls);
-        carry_on(tables, &expected);
+        expected.carry_on(tables);
         Some(expected.ending)
     }
 
@@ -140,11 +140,6 @@ impl<'a> Harness<'a> {
         shown.sort_by_key(String::len);
         shown.truncate(MOST_SHOWN);
     }
-}
-
-fn carry_on(tables: &mut TableBytes, made: &Made) {
-    tables.head.copy_from_slice(made.head());
-    tables.elements.copy_from_slice(made.elements());
 }
 
 /// A line on standard error about once a second, from the second second on.

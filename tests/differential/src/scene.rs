@@ -7,6 +7,10 @@ use reference::TableBytes;
 pub const HEAD_LENGTH: usize = 60;
 pub const EMPTY_SHELVES: usize = 58;
 
+/// How many bytes a search has, and how many of them are its template.
+pub const SEARCH_LENGTH: usize = 41;
+pub const TEMPLATE_LENGTH: usize = 32;
+
 /// The highest generation.
 pub const MOST_GENERATION: u8 = 8;
 
@@ -33,7 +37,7 @@ pub struct Scene {
 }
 
 impl Scene {
-    /// The small library of document 01, with labels for three volumes, all of generation 1; the drive takes that.
+    /// The small library of document 01, with labels for three volumes, all of generation 1; the drive takes that, and there is no search.
     pub fn small_library() -> Scene {
         let ranges = [
             [0x00, 0x01, 0, 1],
@@ -59,6 +63,7 @@ impl Scene {
         };
         scene.tables.generations = vec![1; 3];
         scene.tables.masks = vec![bit(1)];
+        scene.tables.search = vec![0; SEARCH_LENGTH];
         scene.set_volume(3, 1);
         scene.set_volume(5, 2);
         scene.show_empty_shelves(2);

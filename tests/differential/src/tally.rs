@@ -5,6 +5,7 @@ mod cartridges;
 mod mode;
 mod panel;
 mod replay;
+mod searches;
 mod shelves;
 
 use std::collections::BTreeMap;
@@ -23,6 +24,7 @@ pub use cartridges::{Earlier, Legs, Unfit};
 pub use mode::{ModeCut, ModeFault};
 pub use panel::{Change, Wrong};
 pub use replay::{line_outcomes, Given, Lines, Stop};
+pub use searches::{Begun, Held, Matched, NoSearch, PassedOver, Telling, WrongList};
 pub use shelves::{Had, Second, PLACES};
 
 /// "512 elements in four pages, with tags"
@@ -100,6 +102,7 @@ pub enum Slice {
     Blank,
     Generations,
     Masks,
+    Search,
     Block,
     Parameters,
     Answer,
@@ -175,6 +178,31 @@ pub enum Outcome {
     LineByALaterArm(First, bool),
     /// An applied line that ended in 5/30/12.
     LineNotTaken(First),
+    /// How much of what a search found was returned.
+    Found(Cut),
+    /// GOOD of a request, by the action of the search.
+    Requested(u8),
+    FoundWithoutASearch,
+    /// An element of this kind was chosen of a search, and why.
+    FoundIn(Kind),
+    Matched(Matched),
+    /// One was not, for this alone.
+    PassedOver(PassedOver),
+    Told(Telling),
+    /// GOOD: by this action.
+    Sent(u8, Begun),
+    /// 5/24/00 for this action alone.
+    WrongAction(u8),
+    WrongList(WrongList),
+    /// The sense of a SEND VOLUME TAG that was refused over a search.
+    SearchKept([u8; 3]),
+    /// 18h of a command of a search, or GOOD where the host itself holds something.
+    HeldInASearch(First, Held),
+    ResetEndsSearch,
+    /// House number 1: how the search is not sound.
+    NoSearch(NoSearch),
+    /// An applied line behind which the search is another.
+    LineSearches(First),
     /// GOOD, with the last of 127 transports named.
     LastOfMostTransports(First),
     /// Why a replay stopped, and how many lines it had applied.
@@ -268,6 +296,23 @@ impl fmt::Display for Outcome {
             }
             Outcome::LineNotTaken(first) => format!("line, {first}: 5/30/12"),
             Outcome::LargestListing => "listing of 26,664 bytes".into(),
+            Outcome::Found(cut) => format!("B5h: {cut:?}"),
+            Outcome::Requested(action) => format!("B5h: GOOD, action {action:X}h"),
+            Outcome::FoundWithoutASearch => "B5h: GOOD, no search".into(),
+            Outcome::FoundIn(kind) => format!("B5h: chosen, {kind:?}"),
+            Outcome::Matched(matched) => format!("B5h: matched, {matched:?}"),
+            Outcome::PassedOver(why) => format!("B5h: passed over, {why:?}"),
+            Outcome::Told(told) => format!("B5h: told, {told:?}"),
+            Outcome::Sent(action, begun) => format!("B6h: GOOD, action {action:X}h, {begun:?}"),
+            Outcome::WrongAction(action) => format!("B6h: 5/24/00, action {action:02X}h"),
+            Outcome::WrongList(wrong) => format!("B6h: wrong list, {wrong:?}"),
+            Outcome::SearchKept([key, asc, ascq]) => {
+                format!("B6h: {key:X}/{asc:02X}/{ascq:02X} over a search")
+            }
+            Outcome::HeldInASearch(first, held) => format!("{first}: held {held:?}"),
+            Outcome::ResetEndsSearch => "Reset ends a search".into(),
+            Outcome::NoSearch(how) => format!("not sound: search {how:?}"),
+            Outcome::LineSearches(first) => format!("line, {first}: another search"),
             Outcome::LastOfMostTransports(first) => {
                 format!("{first}: GOOD by the last of 127 transports")
             }
@@ -335,7 +380,8 @@ fn outcomes(before: &TableBytes, call: &Call, made: &Made) -> Vec<Outcome> {
             reached.push(Outcome::Entered(*entry));
             reached.push(Outcome::CommandNumber(number));
             if let Some(first) = First::of(block) {
-                reached.extend(command_outcomes(before, *host, first, block, made));
+                let list = call.lent().parameters;
+                reached.extend(command_outcomes(before, *host, first, (block, list), made));
             }
         }
         Call::Import { volume, .. } => {
@@ -345,7 +391,12 @@ fn outcomes(before: &TableBytes, call: &Call, made: &Made) -> Vec<Outcome> {
             }
         }
         Call::Export { .. } => reached.push(Outcome::EventNumber(Event::Export, number)),
-        Call::Reset => reached.push(Outcome::EventNumber(Event::Reset, number)),
+        Call::Reset => {
+            reached.push(Outcome::EventNumber(Event::Reset, number));
+            if number == 0 {
+                reached.extend(searches::reset(before));
+            }
+        }
         Call::Replay {
             log,
             expected,
@@ -361,6 +412,7 @@ fn outcomes(before: &TableBytes, call: &Call, made: &Made) -> Vec<Outcome> {
         }
         if let Some(clause) = broken {
             reached.extend(cartridges::unfit(before, clause));
+            reached.extend(searches::no_search(before, clause));
         }
         if broken == Some(Clause::EmptyShelves) {
             reached.push(panel::wrong(before));
@@ -377,7 +429,7 @@ fn command_outcomes(
     before: &TableBytes,
     host: u32,
     first: First,
-    block: &[u8],
+    (block, list): (&[u8], &[u8]),
     made: &Made,
 ) -> Vec<Outcome> {
     let reply = made.reply();
@@ -394,6 +446,7 @@ fn command_outcomes(
             let mut reached = untold(Earlier::Conflict);
             reached.push(Outcome::Conflict(first));
             reached.extend(arms::conflict(before, host, first, block));
+            reached.extend(searches::held(before, host, first, true));
             reached
         }
         (0x02, _) => {
@@ -401,6 +454,10 @@ fn command_outcomes(
             let mut reached = vec![Outcome::Check(first, [sense[0], sense[1], sense[2]])];
             if first == First::Known(0x1A) && *sense == [5, 0x24, 0x00] {
                 reached.extend(mode::fault(before, block));
+            }
+            if first == First::Known(0xB6) {
+                let sense = [sense[0], sense[1], sense[2]];
+                reached.extend(searches::refused(before, block, list, sense));
             }
             reached.extend(match *sense {
                 [5, 0x21, 0x01] => Vec::from_iter(arms::untold(before, host, first, block)),
@@ -417,11 +474,23 @@ fn command_outcomes(
             vec![Outcome::Good(first), sense, buffer(made)]
         }
         (_, First::Known(0xB8)) => {
-            let listing = Outcome::Listing(cut(block, made));
+            let listing = Outcome::Listing(cut(three(&block[7..]), made));
             let mut reached = vec![Outcome::Good(first), listing, buffer(made)];
             if reply.count == LARGEST_LISTING {
                 reached.push(Outcome::LargestListing);
             }
+            reached
+        }
+        (_, First::Known(0xB5)) => {
+            let found = Outcome::Found(cut(three(&block[7..]) >> 8, made));
+            let mut reached = vec![Outcome::Good(first), found, buffer(made)];
+            reached.extend(searches::requested(before, block, made));
+            reached.extend(searches::held(before, host, first, false));
+            reached
+        }
+        (_, First::Known(0xB6)) => {
+            let mut reached = vec![Outcome::Good(first), searches::sent(before, block)];
+            reached.extend(searches::held(before, host, first, false));
             reached
         }
         (_, First::Known(0x1A)) => {
@@ -466,6 +535,7 @@ fn long_slices(before: &TableBytes, call: &Call, made: &Made) -> Vec<Outcome> {
         (Slice::Blank, before.blank.len()),
         (Slice::Generations, before.generations.len()),
         (Slice::Masks, before.masks.len()),
+        (Slice::Search, before.search.len()),
         (Slice::Block, lent.block.len()),
         (Slice::Parameters, lent.parameters.len()),
         (Slice::Log, lent.log.len()),
@@ -474,7 +544,7 @@ fn long_slices(before: &TableBytes, call: &Call, made: &Made) -> Vec<Outcome> {
     let long = |(slice, length): (Slice, usize)| {
         let above = match (slice, length) {
             (_, 65_536..) => Above::TwoBytes,
-            (Slice::Head | Slice::Blank | Slice::Block, 256..) => Above::OneByte,
+            (Slice::Head | Slice::Blank | Slice::Search | Slice::Block, 256..) => Above::OneByte,
             _ => return None,
         };
         let number = made.ending.number() as u8;
@@ -514,8 +584,7 @@ fn three(bytes: &[u8]) -> usize {
         .fold(0, |sum, &byte| sum << 8 | usize::from(byte))
 }
 
-fn cut(block: &[u8], made: &Made) -> Cut {
-    let allocation = three(&block[7..]);
+fn cut(allocation: usize, made: &Made) -> Cut {
     let returned = &made.answer()[..made.reply().count as usize];
     if returned.len() < 8 {
         return if returned.is_empty() {
@@ -564,6 +633,7 @@ pub fn required() -> Vec<Outcome> {
     required.extend(panel::required());
     required.extend(cartridges::required());
     required.extend(arms::required());
+    required.extend(searches::required());
     required.extend(replay::required());
     required.extend((1..=8).map(Outcome::Preventers));
     required.extend((1..=8).map(Outcome::Lowest));
@@ -588,6 +658,7 @@ fn required_lengths() -> Vec<Outcome> {
     for above in [Above::OneByte, Above::TwoBytes] {
         required.push(Outcome::Long(Slice::Head, above, 1));
         required.push(Outcome::Long(Slice::Blank, above, 1));
+        required.push(Outcome::Long(Slice::Search, above, 1));
         required.push(Outcome::Long(Slice::Block, above, 0));
         required.push(Outcome::Long(Slice::Block, above, 3));
     }
@@ -602,7 +673,7 @@ fn required_numbers() -> Vec<Outcome> {
     for group in [0, 1, 2, 4, 5] {
         required.push(Outcome::NumberOf(First::UnknownOfGroup(group), 3));
     }
-    for first in [0x03, 0xB8, 0x1A] {
+    for first in [0x03, 0xB8, 0x1A, 0xB5] {
         required.push(Outcome::NumberOf(First::Known(first), 5));
     }
     for number in [0, 1, 6, 7, 8, 9] {
@@ -621,6 +692,7 @@ fn required_statuses(first: u8) -> Vec<Outcome> {
     let known = First::Known(first);
     let senses: &[[u8; 3]] = match first {
         0x16 => &[[5, 0x1A, 0x00], [5, 0x26, 0x00], [5, 0x21, 0x01]],
+        0xB6 => &[[5, 0x1A, 0x00], [5, 0x26, 0x00]],
         0xA5 | 0xA6 => &[
             [5, 0x21, 0x01],
             [5, 0x3B, 0x0E],
@@ -644,7 +716,7 @@ fn required_statuses(first: u8) -> Vec<Outcome> {
 }
 
 fn required_listings() -> Vec<Outcome> {
-    let mut required: Vec<Outcome> = [
+    let cuts = [
         Cut::Nothing,
         Cut::PartOfHeader,
         Cut::NothingChosen,
@@ -654,9 +726,9 @@ fn required_listings() -> Vec<Outcome> {
         Cut::RoomForPageHeaderOnly,
         Cut::WholeExactly,
         Cut::WholeWithRoom,
-    ]
-    .map(Outcome::Listing)
-    .into();
+    ];
+    let mut required = cuts.map(Outcome::Listing).to_vec();
+    required.extend(cuts.map(Outcome::Found));
     for told in [
         Told::Sense,
         Told::SenseWhileAttentionWaits,

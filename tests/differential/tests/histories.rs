@@ -19,8 +19,7 @@ fn volumes(tables: &TableBytes) -> BTreeSet<u32> {
 /// Makes the call on the reference and carries the tables on.
 fn happen(scene: &mut Scene, call: &Call) -> Reply {
     let made = make(&Reference::default(), &scene.tables, call, [0xA5; 16]);
-    scene.tables.head = made.head().to_vec();
-    scene.tables.elements = made.elements().to_vec();
+    made.carry_on(&mut scene.tables);
     made.reply()
 }
 

@@ -106,8 +106,7 @@ fn a_replay_ends_as_its_calls_end_one_by_one() {
         for recorded in &day.lines {
             let made = make(on, &tables, &recorded.call, [0; 16]);
             assert_eq!(made.reply(), recorded.reply);
-            tables.head = made.head().to_vec();
-            tables.elements = made.elements().to_vec();
+            made.carry_on(&mut tables);
         }
         assert_eq!(after, tables);
     });

@@ -23,6 +23,8 @@ enum Mistake {
     GenerationsCutToTwoBytes,
     MasksCutToOneByte,
     MasksCutToTwoBytes,
+    SearchCutToOneByte,
+    SearchCutToTwoBytes,
     LargestListingSpoiled,
     LastTransportRefused,
     LogCutToOneByte,
@@ -33,7 +35,7 @@ enum Mistake {
     PlaceCutToTwoBytes,
 }
 
-const MISTAKES: [Mistake; 21] = [
+const MISTAKES: [Mistake; 23] = [
     Mistake::BlockCutToOneByte,
     Mistake::BlockCutToTwoBytes,
     Mistake::ParametersCutToTwoBytes,
@@ -47,6 +49,8 @@ const MISTAKES: [Mistake; 21] = [
     Mistake::GenerationsCutToTwoBytes,
     Mistake::MasksCutToOneByte,
     Mistake::MasksCutToTwoBytes,
+    Mistake::SearchCutToOneByte,
+    Mistake::SearchCutToTwoBytes,
     Mistake::LargestListingSpoiled,
     Mistake::LastTransportRefused,
     Mistake::LogCutToOneByte,
@@ -85,6 +89,8 @@ impl Wrapper {
             }
             Mistake::MasksCutToOneByte => tables.masks = cut(tables.masks, 256),
             Mistake::MasksCutToTwoBytes => tables.masks = cut(tables.masks, 65_536),
+            Mistake::SearchCutToOneByte => cut_mut(&mut tables.search, 256),
+            Mistake::SearchCutToTwoBytes => cut_mut(&mut tables.search, 65_536),
             _ => {}
         }
         tables

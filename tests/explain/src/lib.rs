@@ -28,7 +28,7 @@ extern "C" {
 }
 
 /// The clauses in the order of `smc_clause`, from 1 on.
-pub const CLAUSES: [Clause; 30] = [
+pub const CLAUSES: [Clause; 34] = [
     Clause::HeadLength,
     Clause::ElementCount,
     Clause::TransportCount,
@@ -59,6 +59,10 @@ pub const CLAUSES: [Clause; 30] = [
     Clause::GenerationNumber,
     Clause::MasksLength,
     Clause::DriveTakes,
+    Clause::SearchLength,
+    Clause::SearchAction,
+    Clause::SearchType,
+    Clause::SearchNext,
 ];
 
 impl Fault {

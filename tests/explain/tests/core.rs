@@ -64,20 +64,12 @@ impl Explained {
 
 /// The fault, and the tables as they were: nothing may be written.
 fn explained(tables: Tables) -> (Fault, Tables) {
-    let Tables { head, elements, .. } = tables;
-    let before = (head.to_vec(), elements.to_vec());
-    let lent = Tables {
-        head: &mut *head,
-        elements: &mut *elements,
-        ..tables
-    };
-    let fault = explain(lent);
-    assert_eq!((&*head, &*elements), (&before.0[..], &before.1[..]));
-    let tables = Tables {
-        head,
-        elements,
-        ..tables
-    };
+    let mut tables = tables;
+    let written =
+        |tables: &Tables| [&*tables.head, tables.elements, tables.search].map(<[u8]>::to_vec);
+    let before = written(&tables);
+    let fault = explain(tables.lend());
+    assert_eq!(written(&tables), before);
     (fault, tables)
 }
 

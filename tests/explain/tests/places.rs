@@ -309,6 +309,59 @@ fn cartridges() {
 }
 
 #[test]
+fn searches() {
+    for length in [0, 40, 42] {
+        expect(
+            |s| s.tables.search.resize(length, 0),
+            fault(31, length as u64),
+            &format!("clause 31, the search has 41 bytes: length {length}"),
+        );
+    }
+    let set = |bytes: &'static [(usize, u8)]| {
+        move |s: &mut Scene| {
+            for &(at, byte) in bytes {
+                s.tables.search[at] = byte;
+            }
+        }
+    };
+    // A template, a type, a range or a next address alone is no search.
+    for alone in [[(0, b'*')], [(32, 1)], [(35, 1)], [(40, 1)]] {
+        expect(
+            |s| s.tables.search[alone[0].0] = alone[0].1,
+            fault(32, 0),
+            "clause 32, a search is all zeros or has action 1 or 5: action 0",
+        );
+    }
+    for action in [2, 3, 4, 6, 0x11, 255] {
+        expect(
+            |s| s.tables.search[33] = action,
+            fault(32, action.into()),
+            &format!("clause 32, a search is all zeros or has action 1 or 5: action {action}"),
+        );
+    }
+    expect(
+        set(&[(33, 5), (32, 5)]),
+        fault(33, 5),
+        "clause 33, the type of a search is at most 4: type 5",
+    );
+    expect(
+        set(&[(33, 1), (38, 1), (40, 1)]),
+        fault(34, 0x1_0001),
+        "clause 34, the next address of a search is at most 10000h: address 10001h",
+    );
+    let sound: [&'static [(usize, u8)]; 5] = [
+        &[(33, 1)],
+        &[(33, 5), (32, 4)],
+        &[(33, 1), (38, 1)],
+        &[(33, 1), (34, 0xFF)],
+        &[(0, b'?'), (33, 5), (39, 0xFF), (40, 0xFF)],
+    ];
+    for bytes in sound {
+        expect(set(bytes), Fault::default(), "the tables are sound");
+    }
+}
+
+#[test]
 fn the_text_is_cut_to_the_buffer() {
     let fault = broken(|s| s.hold_unit(9));
     let whole = fault.text();
@@ -332,6 +385,10 @@ fn a_number_that_is_no_clause_has_a_text_too() {
     assert_eq!(
         clause_text(30),
         "a full drive takes its volume's generation"
+    );
+    assert_eq!(
+        clause_text(34),
+        "the next address of a search is at most 10000h"
     );
     for clause in [CLAUSES.len() as u32 + 1, 1_000, u32::MAX] {
         assert_eq!(clause_text(clause), "no clause has this number");

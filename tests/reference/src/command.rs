@@ -6,7 +6,7 @@ use crate::interface::Request;
 use crate::library::{HostNumber, Kind, Labels, Library, Sense};
 use crate::refusal::Refusal;
 use crate::rules::{Mutation, Rules};
-use crate::{element_status, mode_sense, moves, reservations, sense, Lent};
+use crate::{element_status, mode_sense, moves, reservations, search, sense, Lent};
 
 #[derive(Clone, Copy, Debug, PartialEq, Eq)]
 pub(crate) enum Command {
@@ -19,6 +19,8 @@ pub(crate) enum Command {
     ExchangeMedium,
     ReadElementStatus,
     ModeSense,
+    SendVolumeTag,
+    RequestVolumeElementAddress,
 }
 
 impl Command {
@@ -33,6 +35,8 @@ impl Command {
             0xA6 => Some(Command::ExchangeMedium),
             0xB8 => Some(Command::ReadElementStatus),
             0x1A => Some(Command::ModeSense),
+            0xB6 => Some(Command::SendVolumeTag),
+            0xB5 => Some(Command::RequestVolumeElementAddress),
             _ => None,
         }
     }
@@ -51,6 +55,10 @@ impl Command {
                 &[0x1F, 0xFF, 0xFF, 0xFF, 0xFF, 0, 0xFF, 0xFF, 0xFF, 0, 0]
             }
             Command::ModeSense => &[0x08, 0xFF, 0, 0xFF, 0],
+            Command::SendVolumeTag => &[0x0F, 0xFF, 0xFF, 0, 0x1F, 0, 0, 0xFF, 0xFF, 0, 0],
+            Command::RequestVolumeElementAddress => {
+                &[0x1F, 0xFF, 0xFF, 0xFF, 0xFF, 0, 0xFF, 0xFF, 0, 0, 0]
+            }
         }
     }
 }
@@ -79,6 +87,7 @@ impl Call<'_> {
         match self.command() {
             Some(Command::RequestSense | Command::ModeSense) => self.block[4].into(),
             Some(Command::ReadElementStatus) => three(self.block, 7),
+            Some(Command::RequestVolumeElementAddress) => search::allocation(self),
             _ => 0,
         }
     }
@@ -149,6 +158,7 @@ fn accept_parameters(call: &Call) -> Result<(), Refusal> {
     let judge_unknown = call.broken_by(Mutation::ParametersJudgedForUnknownCommands);
     let expected = match call.command() {
         Some(Command::Reserve) => two(call.block, 3).into(),
+        Some(Command::SendVolumeTag) => search::list_length(call),
         None if !judge_unknown => return Ok(()),
         _ => 0,
     };
@@ -185,6 +195,7 @@ pub(crate) fn execute(library: &mut Library, call: &Call) -> Outcome {
         Err(Unsuccessful::ReservationConflict) => conflict_mistakes(library, call, before),
         Ok(_) => {}
     }
+    search::end_mistakes(library, call, outcome.is_ok());
     outcome
 }
 
@@ -209,7 +220,14 @@ fn steps(library: &mut Library, call: &Call) -> Outcome {
         judge_bits(command, call)?;
     }
     refuse_where_unit_held(library, command, call)?;
+    let late = call.broken_by(Mutation::OthersHeldAfterBits);
+    if !late {
+        search::refuse_where_others_hold(library, command, call)?;
+    }
     judge_bits(command, call)?;
+    if late {
+        search::refuse_where_others_hold(library, command, call)?;
+    }
     match command {
         Command::TestUnitReady => Ok(Vec::new()),
         Command::RequestSense => Ok(sense::request_sense(library, call)),
@@ -220,6 +238,8 @@ fn steps(library: &mut Library, call: &Call) -> Outcome {
         Command::ExchangeMedium => moves::exchange_medium(library, call),
         Command::ReadElementStatus => Ok(element_status::read(library, call)),
         Command::ModeSense => mode_sense::read(library, call),
+        Command::SendVolumeTag => search::send(library, call),
+        Command::RequestVolumeElementAddress => search::request(library, call),
     }
 }
 
@@ -252,16 +272,27 @@ fn judge_bits(command: Command, call: &Call) -> Result<(), Unsuccessful> {
     };
     let mut allowed = command.used_bits().to_vec();
     allowed[0] |= ignored;
+    search::stray_mistakes(&mut allowed, command, call);
     let set = &call.block[1..];
     let stray = set.iter().zip(allowed).any(|(set, used)| set & !used != 0);
     let type_code = call.block[1] & 0x0F;
-    let unknown_type = command == Command::ReadElementStatus
-        && type_code != 0
-        && Kind::of_code(type_code).is_none();
-    if stray || unknown_type {
+    let unknown_type =
+        has_type(command, call) && type_code != 0 && Kind::of_code(type_code).is_none();
+    let unknown_action = command == Command::SendVolumeTag && !search::is_known_action(call);
+    if stray || unknown_type || unknown_action {
         return Err(INVALID_FIELD);
     }
     Ok(())
+}
+
+/// Whether a type code is judged.
+fn has_type(command: Command, call: &Call) -> bool {
+    match command {
+        Command::ReadElementStatus => true,
+        Command::SendVolumeTag => !call.broken_by(Mutation::AnyTypeSearched),
+        Command::RequestVolumeElementAddress => !call.broken_by(Mutation::AnyTypeRequested),
+        _ => false,
+    }
 }
 
 fn prevent_allow(library: &mut Library, call: &Call) -> Outcome {

@@ -1,7 +1,7 @@
-//! READ ELEMENT STATUS.
+//! READ ELEMENT STATUS, and the listing that it shares with a search.
 
 use crate::bytes::{as_three, two};
-use crate::command::Call;
+use crate::command::{Call, Command};
 use crate::library::{Element, Kind, Labels, Library};
 use crate::rules::{Mutation, Rules};
 
@@ -41,15 +41,38 @@ struct Page {
     addresses: Vec<u16>,
 }
 
+/// The bytes returned, and the addresses whose descriptors are among them.
+pub(crate) struct Listing {
+    pub(crate) bytes: Vec<u8>,
+    pub(crate) chosen: Vec<u16>,
+    pub(crate) whole: Vec<u16>,
+}
+
 pub(crate) fn read(library: &Library, call: &Call) -> Vec<u8> {
-    let choice = Choice::of(call.block);
-    let chosen = chosen(library, &choice);
+    let told = library.search.map_or(0, |search| search.action);
+    let code = match call.broken_by(Mutation::ActionInEveryListing) {
+        true => told,
+        false => 0,
+    };
+    list(library, call, code, |_, _| true).bytes
+}
+
+/// What the block chooses of the elements that may be listed. The code stands in the header.
+pub(crate) fn list(
+    library: &Library,
+    call: &Call,
+    code: u8,
+    may_be_listed: impl Fn(u16, &Element) -> bool,
+) -> Listing {
+    let mut choice = Choice::of(call.block);
+    request_mistakes(&mut choice, call);
+    let chosen = chosen(library, &choice, call, may_be_listed);
     let mut pages = pages(library, &chosen);
     if call.broken_by(Mutation::PagesInOrderOfType) {
         pages.sort_by_key(|page| page.kind);
     }
-    let returned = returned_length(&pages, &choice, call);
-    let mut bytes = header(&chosen, counted_bytes(&pages, &choice, call));
+    let (returned, descriptors) = returned(&pages, &choice, call);
+    let mut bytes = header(&chosen, code, counted_bytes(&pages, &choice, call));
     for page in &pages {
         bytes.extend(page_header(page, &choice));
         for address in &page.addresses {
@@ -57,18 +80,48 @@ pub(crate) fn read(library: &Library, call: &Call) -> Vec<u8> {
         }
     }
     bytes.truncate(returned);
-    bytes
+    let listed = pages.iter().flat_map(|page| page.addresses.iter().copied());
+    Listing {
+        bytes,
+        whole: listed.take(descriptors).collect(),
+        chosen,
+    }
+}
+
+/// What a request asks of a search; this does nothing but under a mutation.
+fn request_mistakes(choice: &mut Choice, call: &Call) {
+    if call.command() == Some(Command::RequestVolumeElementAddress) {
+        match call.rules.mutation {
+            Some(Mutation::RequestedTypeIgnored) => choice.kind = None,
+            Some(Mutation::RequestedStartIgnored) => choice.start = 0,
+            Some(Mutation::RequestedMostIgnored) => choice.most = usize::MAX,
+            _ => {}
+        }
+    }
 }
 
 /// "elements of the type at or above start, ascending, at most that many"
-fn chosen(library: &Library, choice: &Choice) -> Vec<u16> {
-    library
-        .elements
-        .range(choice.start..)
-        .filter(|(_, element)| choice.kind.is_none_or(|kind| kind == element.kind))
-        .map(|(&address, _)| address)
-        .take(choice.most)
-        .collect()
+fn chosen(
+    library: &Library,
+    choice: &Choice,
+    call: &Call,
+    may_be_listed: impl Fn(u16, &Element) -> bool,
+) -> Vec<u16> {
+    let of_type = |element: &Element| choice.kind.is_none_or(|kind| kind == element.kind);
+    let suited = library.elements.range(choice.start..);
+    let suited = suited.filter(|(_, element)| of_type(element));
+    let listed = |(address, element): &(&u16, &Element)| may_be_listed(**address, element);
+    let address = |(&address, _): (&u16, &Element)| address;
+    match call.broken_by(Mutation::MostBeforeMatching) {
+        true => {
+            let counted = suited.take(choice.most);
+            counted.filter(listed).map(address).collect()
+        }
+        false => {
+            let counted = suited.filter(listed).take(choice.most);
+            counted.map(address).collect()
+        }
+    }
 }
 
 /// "Each type chosen, in order of its addresses"
@@ -99,39 +152,38 @@ fn counted_bytes(pages: &[Page], choice: &Choice, call: &Call) -> usize {
 }
 
 /// "below 8, the first allocation bytes of the header; else the header and as many whole descriptors
-/// as fit, a page header only together with its first descriptor"
-fn returned_length(pages: &[Page], choice: &Choice, call: &Call) -> usize {
+/// as fit, a page header only together with its first descriptor": how many bytes, and how many descriptors
+fn returned(pages: &[Page], choice: &Choice, call: &Call) -> (usize, usize) {
     let allocation = call.allocation();
     if allocation < HEADER_LENGTH {
-        return allocation;
+        return (allocation, 0);
     }
-    let mut length = HEADER_LENGTH;
+    let (mut length, mut whole) = (HEADER_LENGTH, 0);
     for page in pages {
         let room = allocation - length;
         if room < PAGE_HEADER_LENGTH + choice.descriptor_length() {
-            let alone = call.broken_by(Mutation::PageHeaderAlone);
-            return length
-                + if alone {
-                    room.min(PAGE_HEADER_LENGTH)
-                } else {
-                    0
-                };
+            let alone = match call.broken_by(Mutation::PageHeaderAlone) {
+                true => room.min(PAGE_HEADER_LENGTH),
+                false => 0,
+            };
+            return (length + alone, whole);
         }
         let fitting = (room - PAGE_HEADER_LENGTH) / choice.descriptor_length();
         let descriptors = fitting.min(page.addresses.len());
         length += PAGE_HEADER_LENGTH + descriptors * choice.descriptor_length();
+        whole += descriptors;
         if descriptors < page.addresses.len() {
-            return length;
+            break;
         }
     }
-    length
+    (length, whole)
 }
 
-fn header(chosen: &[u16], counted: usize) -> Vec<u8> {
+fn header(chosen: &[u16], code: u8, counted: usize) -> Vec<u8> {
     let first = chosen.first().copied().unwrap_or(0);
     let mut bytes = first.to_be_bytes().to_vec();
     bytes.extend((chosen.len() as u16).to_be_bytes());
-    bytes.push(0);
+    bytes.push(code);
     bytes.extend(as_three(counted));
     bytes
 }

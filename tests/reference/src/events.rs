@@ -36,6 +36,9 @@ pub(crate) fn import(
     });
     let over_all = rules.broken_by(Mutation::ImportOverwritesResetAttention);
     set_attention(library, |host| host.attention.is_none() || over_all);
+    if rules.broken_by(Mutation::ImportEndsSearch) {
+        library.search = None;
+    }
     Ok(())
 }
 
@@ -55,6 +58,10 @@ pub(crate) fn export(library: &mut Library, address: u32, rules: Rules) -> Resul
 
 pub(crate) fn reset(library: &mut Library, rules: Rules) {
     library.unit_holder = None;
+    // "A new search replaces it; reset clears it."
+    if !rules.broken_by(Mutation::ResetKeepsSearch) {
+        library.search = None;
+    }
     for element in library.elements.values_mut() {
         element.reservation = None;
     }

@@ -29,15 +29,24 @@ pub struct Tables<'a> {
     pub blank: &'a [u8],
     pub generations: &'a [u8],
     pub masks: &'a [u8],
+    pub search: &'a mut [u8],
 }
 
 /// The tables by name, in the order in which they are lent.
-pub const TABLES: [&str; 6] = ["head", "elements", "tags", "blank", "generations", "masks"];
+pub const TABLES: [&str; 7] = [
+    "head",
+    "elements",
+    "tags",
+    "blank",
+    "generations",
+    "masks",
+    "search",
+];
 
 impl<'a> Tables<'a> {
     /// A slice for each of [`TABLES`].
     pub fn of(slices: [&'a mut [u8]; TABLES.len()]) -> Tables<'a> {
-        let [head, elements, tags, blank, generations, masks] = slices;
+        let [head, elements, tags, blank, generations, masks, search] = slices;
         Tables {
             head,
             elements,
@@ -45,6 +54,7 @@ impl<'a> Tables<'a> {
             blank,
             generations,
             masks,
+            search,
         }
     }
 
@@ -57,6 +67,7 @@ impl<'a> Tables<'a> {
             blank: self.blank,
             generations: self.generations,
             masks: self.masks,
+            search: self.search,
         }
     }
 }
@@ -70,6 +81,7 @@ pub struct TableBytes {
     pub blank: Vec<u8>,
     pub generations: Vec<u8>,
     pub masks: Vec<u8>,
+    pub search: Vec<u8>,
 }
 
 impl TableBytes {
@@ -92,6 +104,7 @@ impl TableBytes {
             blank: &self.blank,
             generations: &self.generations,
             masks: &self.masks,
+            search: &mut self.search,
         }
     }
 
@@ -104,6 +117,7 @@ impl TableBytes {
             &mut self.blank,
             &mut self.generations,
             &mut self.masks,
+            &mut self.search,
         ]
     }
 }
@@ -130,10 +144,12 @@ pub enum Entry {
     ExchangeMedium,
     ReadElementStatus,
     ModeSense,
+    SendVolumeTag,
+    RequestVolumeElementAddress,
 }
 
 impl Entry {
-    pub const ALL: [Entry; 10] = [
+    pub const ALL: [Entry; 12] = [
         Entry::Command,
         Entry::TestUnitReady,
         Entry::RequestSense,
@@ -144,6 +160,8 @@ impl Entry {
         Entry::ExchangeMedium,
         Entry::ReadElementStatus,
         Entry::ModeSense,
+        Entry::SendVolumeTag,
+        Entry::RequestVolumeElementAddress,
     ];
 }
 

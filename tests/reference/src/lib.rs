@@ -1,4 +1,4 @@
-//! The rules of document 01, with requests One to Seven of document 02, over plain records.
+//! The rules of document 01, with requests One to Eight of document 02, over plain records.
 //!
 //! The lent bytes are read into a [`library::Library`], the rules work on that, and the result is written
 //! back. It is meant to be read beside these documents and to be compared with the command core; it is not
@@ -20,12 +20,14 @@ mod refusal;
 mod replay;
 mod reservations;
 mod rules;
+mod search;
 mod sense;
 mod soundness;
 
 pub use interface::{Entry, Implementation, Replayed, Reply, Request, TableBytes, Tables, TABLES};
 pub use refusal::Refusal;
 pub use rules::{Mutation, Rules};
+pub use search::Search;
 pub use soundness::{check, fails_alone, Clause};
 
 use cartridges::Cartridges;
@@ -54,6 +56,9 @@ impl Reference {
         if room.is_ok() || self.rules.broken_by(writes_anyway) {
             let shown = panel::shown(&before, &library, call.command(), self.rules);
             records::write(&library, shown, tables);
+        }
+        if self.rules.broken_by(Mutation::ToldWithoutRoom) {
+            records::write_search(&library, tables);
         }
         room?;
         Ok(finish(outcome, request.answer))

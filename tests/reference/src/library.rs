@@ -2,6 +2,8 @@
 
 use std::collections::{BTreeMap, BTreeSet};
 
+use crate::search::Search;
+
 #[derive(Clone, Copy, Debug, PartialEq, Eq, PartialOrd, Ord)]
 pub enum Kind {
     Transport,
@@ -142,6 +144,7 @@ pub struct Library {
     pub unit_holder: Option<HostNumber>,
     pub preventing: BTreeSet<HostNumber>,
     pub hosts: BTreeMap<HostNumber, Host>,
+    pub search: Option<Search>,
 }
 
 impl Library {

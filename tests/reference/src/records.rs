@@ -6,9 +6,11 @@ use std::ops::Range;
 use crate::bytes::two;
 use crate::interface::Tables;
 use crate::library::{Attention, Element, Host, HostNumber, Kind, Library, Reservation, Sense};
+use crate::search::Search;
 
 pub(crate) const HEAD_LENGTH: usize = 60;
 pub(crate) const ELEMENT_LENGTH: usize = 8;
+pub(crate) const SEARCH_LENGTH: usize = 41;
 const RANGE_LENGTH: usize = 4;
 const UNIT_HOLDER: usize = 16;
 const PREVENT_MASK: usize = 17;
@@ -56,6 +58,7 @@ pub(crate) struct Records {
     pub(crate) hosts: Vec<HostRecord>,
     pub(crate) empty_shelves: u16,
     pub(crate) elements: Vec<ElementRecord>,
+    pub(crate) search: Option<Search>,
 }
 
 pub(crate) fn read_ranges(head: &[u8]) -> Vec<AddressRange> {
@@ -87,6 +90,7 @@ impl Records {
                 .zip(tables.elements.chunks_exact(ELEMENT_LENGTH))
                 .map(|((address, kind), bytes)| read_element(address, kind, bytes))
                 .collect(),
+            search: Search::read(tables.search),
         }
     }
 
@@ -101,6 +105,7 @@ impl Records {
             hosts: HostNumber::all()
                 .zip(self.hosts.iter().map(host))
                 .collect::<BTreeMap<_, _>>(),
+            search: self.search,
         }
     }
 }
@@ -187,6 +192,15 @@ pub(crate) fn write(library: &Library, empty_shelves: u16, tables: &mut Tables) 
     let elements = tables.elements.chunks_exact_mut(ELEMENT_LENGTH);
     for (bytes, element) in elements.zip(library.elements.values()) {
         bytes.copy_from_slice(&element_bytes(element));
+    }
+    write_search(library, tables);
+}
+
+/// The search alone.
+pub(crate) fn write_search(library: &Library, tables: &mut Tables) {
+    let search = library.search.map_or([0; SEARCH_LENGTH], Search::bytes);
+    for (place, byte) in tables.search.iter_mut().zip(search) {
+        *place = byte;
     }
 }
 

@@ -36,7 +36,7 @@ pub(crate) fn replay(
         told.number = NOT_SOUND;
         return told;
     }
-    let start = (tables.head.to_vec(), tables.elements.to_vec());
+    let start = [&*tables.head, tables.elements, tables.search].map(<[u8]>::to_vec);
     // "Each call does at most a stated number of lines, stops sooner only at number 1 or 10 or the log's end"
     while told.lines < budget && told.place < log.len() {
         let rest = &log[told.place..];
@@ -74,7 +74,7 @@ fn stop_mistakes(
     told: &mut Replayed,
     rest: &[u8],
     tables: &mut Tables,
-    (head, elements): (Vec<u8>, Vec<u8>),
+    [head, elements, search]: [Vec<u8>; 3],
     rules: Rules,
 ) {
     match rules.mutation {
@@ -86,7 +86,9 @@ fn stop_mistakes(
         Some(Mutation::TablesPutBackAtTen) => {
             tables.head.copy_from_slice(&head);
             tables.elements.copy_from_slice(&elements);
+            tables.search.copy_from_slice(&search);
         }
+        Some(Mutation::SearchPutBackAtTen) => tables.search.copy_from_slice(&search),
         _ => {}
     }
 }
@@ -245,6 +247,9 @@ impl Recorded {
         let of_lines = match reference.rules.mutation {
             Some(Mutation::ReplayTakesAnyCartridge) => Rules::with(Mutation::AnyCartridgeTaken),
             Some(Mutation::ReplayUsesTheFirstArm) => Rules::with(Mutation::FirstArmAlways),
+            Some(Mutation::ReplayTellsNothing) => Rules::with(Mutation::ToldTwice),
+            Some(Mutation::ReplayKeepsNoSearch) => Rules::with(Mutation::SearchNotKept),
+            Some(Mutation::ReplayResetKeepsSearch) => Rules::with(Mutation::ResetKeepsSearch),
             _ => reference.rules,
         };
         let reference = &Reference { rules: of_lines };

@@ -7,9 +7,10 @@ use crate::interface::Tables;
 use crate::library::{Kind, Labels};
 use crate::panel;
 use crate::records::{
-    read_ranges, AddressRange, ElementRecord, Records, ELEMENT_LENGTH, HEAD_LENGTH,
+    read_ranges, AddressRange, ElementRecord, Records, ELEMENT_LENGTH, HEAD_LENGTH, SEARCH_LENGTH,
 };
 use crate::rules::{Mutation, Rules};
+use crate::search::Search;
 
 const MOST_ELEMENTS: u32 = 512;
 const MOST_TRANSPORTS: u32 = 127;
@@ -26,6 +27,10 @@ pub enum Clause {
     MostVolumes,
     GenerationsLength,
     GenerationNumber,
+    SearchLength,
+    SearchAction,
+    SearchType,
+    SearchNext,
     EmptyRangeFirst,
     RangeWithin,
     RangeOverlap,
@@ -54,13 +59,17 @@ pub enum Clause {
 
 impl Clause {
     /// In the order of judging.
-    pub const ALL: [Clause; 30] = [
+    pub const ALL: [Clause; 34] = [
         Clause::HeadLength,
         Clause::BlankLength,
         Clause::TagsLength,
         Clause::MostVolumes,
         Clause::GenerationsLength,
         Clause::GenerationNumber,
+        Clause::SearchLength,
+        Clause::SearchAction,
+        Clause::SearchType,
+        Clause::SearchNext,
         Clause::EmptyRangeFirst,
         Clause::RangeWithin,
         Clause::RangeOverlap,
@@ -95,6 +104,10 @@ impl Clause {
             Clause::MostVolumes => "V at most 512",
             Clause::GenerationsLength => "a generation for each volume",
             Clause::GenerationNumber => "each generation 1 to 8",
+            Clause::SearchLength => "search of 41 bytes",
+            Clause::SearchAction => "no search, or action 1h or 5h",
+            Clause::SearchType => "search for a type at most 4",
+            Clause::SearchNext => "next address at most 10000h",
             Clause::EmptyRangeFirst => "a count of 0 has first address 0",
             Clause::RangeWithin => "each range within 1 to 65,535",
             Clause::RangeOverlap => "no overlap",
@@ -145,6 +158,7 @@ pub(crate) fn judge(tables: &Tables, rules: Rules) -> Result<Records, Clause> {
     let judge = Judge { rules };
     judge.lengths(tables)?;
     judge.generations(tables)?;
+    judge.search(tables)?;
     let ranges = read_ranges(tables.head);
     judge.ranges(&ranges)?;
     judge.counts(&ranges)?;
@@ -215,6 +229,22 @@ impl Judge {
         };
         self.require(right, Clause::GenerationsLength)?;
         self.require(judged.iter().all(known), Clause::GenerationNumber)
+    }
+
+    /// "All zeros means no search; only a wrong length, or a field's value that no search could leave, is number 1"
+    fn search(&self, tables: &Tables) -> Result<(), Clause> {
+        let right = match self.rules.mutation {
+            Some(Mutation::LongerSearchIsSound) => tables.search.len() >= SEARCH_LENGTH,
+            _ => tables.search.len() == SEARCH_LENGTH,
+        };
+        self.require(right, Clause::SearchLength)?;
+        let Some(search) = Search::read(tables.search) else {
+            return Ok(());
+        };
+        let [action, kind, next] = search.fields_left(self.rules);
+        self.require(action, Clause::SearchAction)?;
+        self.require(kind, Clause::SearchType)?;
+        self.require(next, Clause::SearchNext)
     }
 
     /// A mask may have any value.

@@ -35,6 +35,12 @@ enum-told-9 c = search needs
 enum-told-10 : tie.Need-enum-told-10
 enum-told-10 c = search needs
 
+enum-told-11 : tie.Need-enum-told-11
+enum-told-11 c = search needs
+
+enum-told-12 : tie.Need-enum-told-12
+enum-told-12 c = search needs
+
 returns : tie.Need-returns
 unfolding meetsAttention meaning
 returns c = rw (c .enum-told .given .1)
@@ -75,6 +81,14 @@ returns-10 : tie.Need-returns-10
 unfolding meetsAttention meaning
 returns-10 c = rw (c .enum-told10 .given .1)
 
+returns-11 : tie.Need-returns-11
+unfolding meetsAttention meaning
+returns-11 c = rw (c .enum-told11 .given .1)
+
+returns-12 : tie.Need-returns-12
+unfolding meetsAttention meaning
+returns-12 c = rw (c .enum-told12 .given .1)
+
 pub meets-attention-spec : {M : Type 1} → statement M
 meets-attention-spec =
     tie.close
@@ -89,6 +103,8 @@ meets-attention-spec =
     enum-told-8
     enum-told-9
     enum-told-10
+    enum-told-11
+    enum-told-12
     returns
     returns-2
     returns-3
@@ -98,4 +114,6 @@ meets-attention-spec =
     returns-7
     returns-8
     returns-9
-    returns-10)
+    returns-10
+    returns-11
+    returns-12)

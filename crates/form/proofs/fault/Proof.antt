@@ -126,6 +126,40 @@ lower-requires-3 c κs = search needs
 enum-told-10 : tie.Need-enum-told-10
 enum-told-10 c = search needs
 
+slice-aggregate-stray-10 : tie.Need-slice-aggregate-stray-10
+slice-aggregate-stray-10 c = search needs
+
+stray-requires-10 : tie.Need-stray-requires-10
+unfolding meaning
+stray-requires-10 c κs = omega (arith, sized _ _ _ (c .before .before .before .before .before .before .pre .1) (c .before .enum-told10 .given .1))
+
+tag-fault-requires : tie.Need-tag-fault-requires
+unfolding meaning
+tag-fault-requires c κs = sized _ _ _ (c .before .before .before .before .before .before .before .pre .1) (c .before .before .enum-told10 .given .1)
+
+lower-requires-4 : tie.Need-lower-requires-4
+lower-requires-4 c κs = search needs
+
+enum-told-11 : tie.Need-enum-told-11
+enum-told-11 c = search needs
+
+slice-aggregate-stray-11 : tie.Need-slice-aggregate-stray-11
+slice-aggregate-stray-11 c = search needs
+
+stray-requires-11 : tie.Need-stray-requires-11
+unfolding meaning
+stray-requires-11 c κs = omega (arith, sized _ _ _ (c .before .before .before .before .before .before .pre .1) (c .before .enum-told11 .given .1))
+
+type-fault-requires-2 : tie.Need-type-fault-requires-2
+unfolding meaning
+type-fault-requires-2 c κs = sized _ _ _ (c .before .before .before .before .before .before .before .pre .1) (c .before .before .enum-told11 .given .1)
+
+lower-requires-5 : tie.Need-lower-requires-5
+lower-requires-5 c κs = search needs
+
+enum-told-12 : tie.Need-enum-told-12
+enum-told-12 c = search needs
+
 returns : tie.Need-returns
 unfolding fault meaning unused ownFault
 returns c = rw (c .before .before .enum-told .given .1) (c .stray .ensures ∙ lower-none _)
@@ -155,16 +189,24 @@ unfolding fault meaning unused ownFault
 returns-7 c = rw (c .before .before .enum-told7 .given .1) (c .stray7 .ensures ∙ lower-none _)
 
 returns-8 : tie.Need-returns-8
-unfolding fault meaning unused
-returns-8 c = rw (c .before .before .before .before .enum-told8 .given .1) (lower-by _ _ _ _ _ (c .lower2 .ensures) (c .before .before .stray8 .ensures) (c .before .type-fault .ensures _ _))
+unfolding fault meaning unused ownFault
+returns-8 c = rw (c .before .before .before .before .enum-told8 .given .1) (lower-by _ _ _ _ _ (c .lower2 .ensures) (c .before .before .stray8 .ensures) (c .before .type-fault .ensures))
 
 returns-9 : tie.Need-returns-9
 unfolding fault meaning unused
 returns-9 c = rw (c .before .before .before .before .enum-told9 .given .1) (lower-by _ _ _ _ _ (c .lower3 .ensures) (c .before .before .stray9 .ensures) (c .before .page-fault .ensures _))
 
 returns-10 : tie.Need-returns-10
+unfolding fault meaning unused
+returns-10 c = rw (c .before .before .before .before .enum-told10 .given .1) (lower-by _ _ _ _ _ (c .lower4 .ensures) (c .before .before .stray10 .ensures) (c .before .tag-fault .ensures _ _))
+
+returns-11 : tie.Need-returns-11
+unfolding fault meaning unused ownFault
+returns-11 c = rw (c .before .before .before .before .enum-told11 .given .1) (lower-by _ _ _ _ _ (c .lower5 .ensures) (c .before .before .stray11 .ensures) (c .before .type-fault2 .ensures))
+
+returns-12 : tie.Need-returns-12
 unfolding fault meaning unused ownFault stray strayFrom lower when
-returns-10 c = rw (c .enum-told10 .given .1)
+returns-12 c = rw (c .enum-told12 .given .1)
 
 pub fault-spec : {M : Type 1} → statement M
 fault-spec =
@@ -204,6 +246,16 @@ fault-spec =
     page-fault-requires
     lower-requires-3
     enum-told-10
+    slice-aggregate-stray-10
+    stray-requires-10
+    tag-fault-requires
+    lower-requires-4
+    enum-told-11
+    slice-aggregate-stray-11
+    stray-requires-11
+    type-fault-requires-2
+    lower-requires-5
+    enum-told-12
     returns
     returns-2
     returns-3
@@ -213,4 +265,6 @@ fault-spec =
     returns-7
     returns-8
     returns-9
-    returns-10)
+    returns-10
+    returns-11
+    returns-12)

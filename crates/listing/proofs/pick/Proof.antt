@@ -1,33 +1,62 @@
 -- `listing::pick` meets its contract. Assumes nothing.
-use Rattle.rules.specs.Choice.{when}
-use borrow.Author.Tests.{eq-eqb, ne-eqb}
-use Rattle.rules.specs.Choice.{anyOf}
-use Rattle.listing.specs.Plan.{picks}
+use mathlib.Core.Path.{sym, _∙_}
+use Rattle.tables.specs.Ranges.{meaning}
+use Rattle.listing.proofs.Parts.{picks-suited, picks-unsuited}
 use borrow.Author.Needs.{needs}
 use Rattle.listing.proofs.pick.Statement.{statement}
 use Rattle.listing.proofs.pick.Tie as tie
 
+of-type-requires : tie.Need-of-type-requires
+of-type-requires c κs = search needs
+
+cast-less : tie.Need-cast-less
+cast-less c = search needs
+
 less-requires : tie.Need-less-requires
 less-requires c κs = search needs
 
+cast-less-2 : tie.Need-cast-less-2
+cast-less-2 c = search needs
+
 less-requires-2 : tie.Need-less-requires-2
 less-requires-2 c κs = search needs
+
+add-count : tie.Need-add-count
+add-count c = search needs
+
+count-requires : tie.Need-count-requires
+count-requires c κs = search needs
 
 least-requires : tie.Need-least-requires
 least-requires c κs = search needs
 
 returns : tie.Need-returns
-unfolding picks anyOf when
-returns c = simp (eq-eqb _ _ (c .if1 .taken)) (rw (c .before .least .ensures, c .before .before .less2 .ensures, c .before .before .before .less .ensures))
+returns c =
+    let counted = c .before in
+    let second = counted .before .before in
+    let first = second .before .before in
+    let asked = first .before .before .before in
+    let a = asked .before .before .args in
+    rw (c .least .ensures, counted .count .ensures, second .less2 .ensures, first .less .ensures)
+    (sym (picks-suited _ (a .q) (a .s) (meaning (a .r)) (sym (asked .of-type .ensures) ∙ first .before .before .if1 .taken)))
 
 returns-2 : tie.Need-returns-2
-unfolding picks anyOf when
-returns-2 c = simp (ne-eqb _ _ (c .before .if1 .left), eq-eqb _ _ (c .if2 .taken)) (rw (c .before .before .least .ensures, c .before .before .before .less2 .ensures, c .before .before .before .before .less .ensures))
-
-returns-3 : tie.Need-returns-3
-unfolding picks anyOf when
-returns-3 c = simp (ne-eqb _ _ (c .before .if1 .left), ne-eqb _ _ (c .if2 .left))
+returns-2 c =
+    let asked = c .before in
+    let a = asked .before .before .args in
+    sym (picks-unsuited _ (a .q) (a .s) (meaning (a .r)) (sym (asked .of-type .ensures) ∙ c .if1 .left))
 
 pub pick-spec : {M : Type 1} → statement M
 pick-spec =
-    tie.close (tie.spec less-requires less-requires-2 least-requires returns returns-2 returns-3)
+    tie.close
+    (tie.spec
+    of-type-requires
+    cast-less
+    less-requires
+    cast-less-2
+    less-requires-2
+    add-count
+    count-requires
+    least-requires
+    returns
+    returns-2)

@@ -1,36 +1,30 @@
 -- `listing::put_range` meets its contract. Assumes nothing.
-use mathlib.Core.Path.{_≡_, sym, _∙_}
+use mathlib.Core.Path.{_≡_, sym, ap, _∙_}
 use native.Mathlib.Omega.{arith}
-use borrow.Author.Tests.{eq-eqb}
+use denote.Ref.{now}
 use Rattle.rules.specs.Choice.{when}
+use Rattle.rules.proofs.Writes.{put-nothing}
 use Rattle.pages.specs.Pages.{shown}
 use Rattle.tables.specs.Ranges.{meaning}
-use Rattle.listing.specs.Counting.{stepOf, stepBytes, chosenAt, fittingAt}
-use Rattle.rules.proofs.Writes.{put-nothing}
-use Rattle.listing.proofs.Counted.{picks-few, counts-few}
+use Rattle.listing.specs.declared.Part.{Part}
+use Rattle.listing.specs.Counting.{stepOf, stepBytes, fittingAt, chosenAt}
+use Rattle.listing.proofs.Counted.{counts-few}
 use Rattle.listing.proofs.Fitting.{fit-is}
+use Rattle.listing.proofs.Parts.{picked-run, told-inside}
 use borrow.Author.Needs.{needs}
 use Rattle.listing.proofs.put_range.Statement.{statement}
 use Rattle.listing.proofs.put_range.Tie as tie
 
-cast-first : tie.Need-cast-first
-cast-first c = search needs
-
-cast-count : tie.Need-cast-count
-cast-count c = search needs
-
-pick-requires : tie.Need-pick-requires
-pick-requires c κs = search needs
-
-fit-requires : tie.Need-fit-requires
-fit-requires c κs = search needs
-
 returns : tie.Need-returns
 unfolding stepBytes shown when
 returns c =
-    let a = c .before .before .before .before .before .before .before .before .before .args in
-    let e : fittingAt (a .q) (a .s) (meaning (a .r)) ≡ 0 = rw (← c .before .before .pick .ensures) (sym (c .before .fit .ensures) ∙ c .if1 .taken) in
-    simp (eq-eqb _ _ e) (sym (put-nothing _ _))
+    let s = c .before .before .before .before .before .before in
+    let a = s .args in
+    let e : fittingAt (now (a .marks)) (a .q) (a .s) (meaning (a .r)) ≡ 0 = sym (ap (λ (p : Part). p .m) (s .pre .1 .1 .0)) ∙ c .if1 .taken in
+    rw e (sym (put-nothing _ _))
+
+cast-first : tie.Need-cast-first
+cast-first c = search needs
 
 less-requires : tie.Need-less-requires
 less-requires c κs = search needs
@@ -44,18 +38,18 @@ add-put-page-2 c = search needs
 put-page-requires : tie.Need-put-page-requires
 unfolding stepOf
 put-page-requires c κs =
-    let tested = c .before .before .before in
-    let picked = tested .before .before in
-    let s = picked .before .before .before .before .before .before .before in
+    let skipped = c .before .before in
+    let tested = skipped .before .before in
+    let s = tested .before .before .before .before .before .before in
     let a = s .args in
+    let marks = now (a .marks) in
     let r = meaning (a .r) in
-    let p = picks-few (a .q .code) (a .q .start) (a .s .left) r in
-    let f = fit-is (a .q .tagged) (a .s .room) (chosenAt (a .q) (a .s) r) .few in
-    let k = counts-few (a .q) (a .s) r (s .pre .1 .0 .1 .1 .sum) in
     let i = s .pre .1 .0 .1 .0 in
-    let z : fittingAt (a .q) (a .s) r ≡ 0 → ⊥ = rw (tested .before .fit .ensures, picked .pick .ensures) at (tested .if1 .left) in
-    rw (c .before .before .less .ensures, tested .before .fit .ensures, picked .pick .ensures)
-    (s .pre .0, ((omega (arith, p, f, z, i .ends), (k .1, k .0)), (omega (arith, p, f, z, s .pre .1 .1 .0), s .pre .1 .1 .1)))
+    let z : fittingAt marks (a .q) (a .s) r ≡ 0 → ⊥ = rw (s .pre .1 .1 .0) at (tested .if1 .left) in
+    let k = counts-few marks (a .q) (a .s) r (s .pre .1 .0 .1 .1 .sum) in
+    let t = told-inside marks (a .q) (a .s) r i z in
+    rw (skipped .less .ensures, s .pre .1 .1 .0)
+    (s .pre .0, ((t .0, k .1), (t .1 .0, (omega (arith, t .1 .1, s .pre .1 .1 .1 .0), s .pre .1 .1 .1 .1))))
 
 same-length : tie.Need-same-length
 same-length c = search needs
@@ -65,18 +59,19 @@ unfolding stepBytes
 returns-2 c =
     let put = c .before .before in
     let skipped = put .before .before .before in
-    let fitted = skipped .before .before in
-    rw (put .put-page .ensures, skipped .less .ensures, fitted .fit .ensures, fitted .before .pick .ensures)
+    let s = skipped .before .before .before .before .before .before .before .before in
+    let a = s .args in
+    let marks = now (a .marks) in
+    let r = meaning (a .r) in
+    let f = fit-is (a .q .tagged) (a .s .room) (chosenAt marks (a .q) (a .s) r) .few in
+    rw (put .put-page .ensures, skipped .less .ensures, s .pre .1 .1 .0, picked-run marks (a .q) (a .s) r (fittingAt marks (a .q) (a .s) r) f)
 
 pub put-range-spec : {M : Type 1} → statement M
 put-range-spec =
     tie.close
     (tie.spec
-    cast-first
-    cast-count
-    pick-requires
-    fit-requires
     returns
+    cast-first
     less-requires
     add-put-page
     add-put-page-2

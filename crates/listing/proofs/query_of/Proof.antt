@@ -12,13 +12,12 @@ shared-slice-read-options c = search needs
 word-at-requires : tie.Need-word-at-requires
 word-at-requires c κs = search needs
 
-cast-t9 : tie.Need-cast-t9
-cast-t9 c = search needs
+cast-t10 : tie.Need-cast-t10
+cast-t10 c = search needs
 
 returns : tie.Need-returns
 unfolding withTags typeCode byte
 returns c = (rw (c .word-at .ensures), omega (arith, c .word-at .ok))
 
 pub query-of-spec : {M : Type 1} → statement M
-query-of-spec =
-    tie.close (tie.spec shared-slice-read-options word-at-requires cast-t9 returns)
+query-of-spec = tie.close (tie.spec shared-slice-read-options word-at-requires cast-t10 returns)

@@ -11,13 +11,13 @@ use Rattle.listing.proofs.shortened.Statement.{statement}
 use Rattle.listing.proofs.shortened.Tie as tie
 
 -- the bytes returned are those of the header, as many as were counted
-short : (c : tie.After-cut) → (let s = c .before .before in c .cut .result ≡ length (cut (s .args .allocation) (headerAt (s .args .x))))
-short c = let s = c .before .before in c .cut .ensures ∙ sym (header-cut-length (s .args .allocation) (s .args .x))
+short : (c : tie.After-cut) → (let s = c .before .before in c .cut .result ≡ length (cut (s .args .allocation) (headerAt (s .args .action) (s .args .x))))
+short c = let s = c .before .before in c .cut .ensures ∙ sym (header-cut-length (s .args .allocation) (s .args .action) (s .args .x))
 
 first : (c : tie.After-cut)
-    → (let s = c .before .before in take (c .cut .result) (headerAt (s .args .x)) ≡ cut (s .args .allocation) (headerAt (s .args .x)))
+    → (let s = c .before .before in take (c .cut .result) (headerAt (s .args .action) (s .args .x)) ≡ cut (s .args .allocation) (headerAt (s .args .action) (s .args .x)))
 unfolding cut
-first c = let s = c .before .before in rw (c .cut .ensures) (header-cut (s .args .allocation) (s .args .x))
+first c = let s = c .before .before in rw (c .cut .ensures) (header-cut (s .args .allocation) (s .args .action) (s .args .x))
 
 -- the part of the array that is lent is so long
 part : (c : tie.After-header) → length (take (c .before .before .before .cut .result) (c .header .last .0)) ≡ c .before .before .before .cut .result
@@ -66,7 +66,7 @@ returns-2 c =
     let headed = c .before .before .before .before .before .before .before in
     let counted = headed .before .before .before in
     let s = counted .before .before in
-    let h : headed .header .last .0 ≡ headerAt (s .args .x) = headed .header .ensures ∙ put-whole _ _ (header-length _ _ _) in
+    let h : headed .header .last .0 ≡ headerAt (s .args .action) (s .args .x) = headed .header .ensures ∙ put-whole _ _ (header-length _ _ _ _) in
     rw (c .told .ensures)
     (answers-told _ _ _ _ (c .before .before .before .copy .ensures ∙ rw (h, first counted)) (short counted) (headed .before .before .if1 .left))
 

@@ -1,95 +1,94 @@
 -- `listing::step` meets its contract. Assumes nothing.
 use native.Mathlib.Omega.{arith}
-use Prim.Native.Nat.{_<_}
-use Rattle.tables.specs.Ranges.{meaning}
-use Rattle.listing.specs.Counting.{stepOf}
+use Rattle.listing.specs.Counting.{stepBy}
 use Rattle.pages.proofs.Descriptor.{page-bytes-few}
-use Rattle.listing.proofs.Counted.{counts-few}
 use borrow.Author.Needs.{needs}
 use Rattle.listing.proofs.step.Statement.{statement}
 use Rattle.listing.proofs.step.Tie as tie
 
--- what is chosen and what fits are few
-few : (c : tie.After-fit) → (c .fit .result < 65536) × (c .before .pick .result < 65536)
-few c =
-    let s = c .before .before .before .before in
-    rw (c .fit .ensures, c .before .pick .ensures) (counts-few (s .args .q) (s .args .s) (meaning (s .args .r)) (s .pre .1 .sum))
-
 cast-first : tie.Need-cast-first
 cast-first c = search needs
-
-cast-count : tie.Need-cast-count
-cast-count c = search needs
-
-pick-requires : tie.Need-pick-requires
-pick-requires c κs = search needs
-
-fit-requires : tie.Need-fit-requires
-fit-requires c κs = search needs
 
 less-requires : tie.Need-less-requires
 less-requires c κs = search needs
 
-add-t9 : tie.Need-add-t9
-add-t9 c = search needs
+add-start : tie.Need-add-start
+add-start c = search needs
+
+cast-t7 : tie.Need-cast-t7
+cast-t7 c = search needs
+
+add-t8 : tie.Need-add-t8
+add-t8 c = search needs
 
 less-requires-2 : tie.Need-less-requires-2
 less-requires-2 c κs = search needs
 
 rest-requires : tie.Need-rest-requires
-rest-requires c κs = few (c .before .before .before) .0
+rest-requires c κs = search needs
 
 page-bytes-requires : tie.Need-page-bytes-requires
-page-bytes-requires c κs = few (c .before .before .before .before) .0
+page-bytes-requires c κs = search needs
+
+add-t12 : tie.Need-add-t12
+add-t12 c =
+    let s = c .before .before .before .before .before .before .before .before in
+    let w = s .pre .1 in
+    let u = page-bytes-few (s .args .q .tagged) (s .args .p .m) (omega (arith, w .1 .sum, w .1 .few)) in
+    omega (arith, c .before .page-bytes .ensures, u, w .0 .at)
 
 add-t13 : tie.Need-add-t13
-add-t13 c =
-    let fitted = c .before .before .before .before .before .before in
-    let s = fitted .before .before .before .before in
-    let u = page-bytes-few (s .args .q .tagged) (fitted .fit .result) (few fitted .0) in
-    let v = rw (← c .before .page-bytes .ensures) at u in
-    omega (arith, v, s .pre .1 .at)
-
-add-t14 : tie.Need-add-t14
-add-t14 c =
-    let fitted = c .before .before .before .before .before .before .before in
-    let s = fitted .before .before .before .before in
-    omega (arith, few fitted, s .pre .1 .sum)
+add-t13 c = search needs
 
 page-bytes-requires-2 : tie.Need-page-bytes-requires-2
-page-bytes-requires-2 c κs = omega (arith, few (c .before .before .before .before .before .before .before))
+page-bytes-requires-2 c κs = search needs
 
-add-t16 : tie.Need-add-t16
-add-t16 c =
-    let fitted = c .before .before .before .before .before .before .before .before .before in
-    let s = fitted .before .before .before .before in
-    let u = page-bytes-few (s .args .q .tagged) (fitted .fit .result) (few fitted .0) in
-    let v = page-bytes-few (s .args .q .tagged) (fitted .before .pick .result) (few fitted .1) in
-    omega (arith, c .before .page-bytes2 .ensures, u, v, s .pre .1 .total)
+add-t15 : tie.Need-add-t15
+add-t15 c =
+    let s = c .before .before .before .before .before .before .before .before .before .before .before .before in
+    let w = s .pre .1 in
+    let u = page-bytes-few (s .args .q .tagged) (s .args .p .n) (omega (arith, w .1 .sum)) in
+    omega (arith, c .before .page-bytes2 .ensures, u, w .0 .total)
 
-add-lead : tie.Need-add-lead
-add-lead c =
-    let skipped = c .before .before .before .before .before .before .before .before in
-    let s = skipped .before .before .before .before .before in
-    omega (arith, s .pre .0 .1 .begins, s .pre .0 .0, skipped .less .ensures)
+add-less : tie.Need-add-less
+add-less c =
+    let skipped = c .before .before .before .before .before .before .before .before .before .before .before in
+    let s = skipped .before .before in
+    omega (arith, skipped .less .ensures, s .pre .0 .0, s .pre .0 .1 .begins, s .pre .1 .1 .lead)
+
+less-requires-3 : tie.Need-less-requires-3
+less-requires-3 c κs = search needs
 
 lead-requires : tie.Need-lead-requires
 lead-requires c κs = search needs
 
+add-behind : tie.Need-add-behind
+add-behind c =
+    let led = c .before .before .before in
+    let skipped = led .before .before .before .before .before .before .before .before .before .before .before in
+    let s = skipped .before .before in
+    omega (arith, skipped .less .ensures, s .pre .0 .0, s .pre .0 .1 .begins, s .pre .1 .1 .run)
+
+behind-requires : tie.Need-behind-requires
+behind-requires c κs = search needs
+
 returns : tie.Need-returns
-unfolding stepOf
+unfolding stepBy
 returns c =
-    let paged = c .before .before .before .before .before in
-    let skipped = paged .before .before .before .before in
+    let led = c .before .before in
+    let paged = led .before .before .before .before in
+    let sized = paged .before .before .before .before in
+    let left = sized .before .before in
+    let skipped = left .before .before .before in
     rw (
-      c .lead .ensures,
+      c .behind .ensures,
+      led .lead .ensures,
+      led .before .less3 .ensures,
+      paged .page-bytes2 .ensures,
+      sized .page-bytes .ensures,
+      sized .before .rest .ensures,
+      left .less2 .ensures,
       skipped .less .ensures,
-      c .before .before .page-bytes2 .ensures,
-      paged .page-bytes .ensures,
-      paged .before .rest .ensures,
-      paged .before .before .less2 .ensures,
-      skipped .before .fit .ensures,
-      skipped .before .before .pick .ensures,
     )
 
 pub step-spec : {M : Type 1} → statement M
@@ -97,18 +96,20 @@ step-spec =
     tie.close
     (tie.spec
     cast-first
-    cast-count
-    pick-requires
-    fit-requires
     less-requires
-    add-t9
+    add-start
+    cast-t7
+    add-t8
     less-requires-2
     rest-requires
     page-bytes-requires
+    add-t12
     add-t13
-    add-t14
     page-bytes-requires-2
-    add-t16
-    add-lead
+    add-t15
+    add-less
+    less-requires-3
     lead-requires
+    add-behind
+    behind-requires
     returns)

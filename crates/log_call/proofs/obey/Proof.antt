@@ -1,10 +1,12 @@
 -- `log_call::obey` meets its contract. Assumes nothing.
-use mathlib.Core.Path.{sym, _∙_}
+use mathlib.Core.Path.{refl, sym, _∙_}
 use borrow.Author.Tests.{not-true, not-false}
+use mathlib.Core.List.{[]}
 use Rattle.rules.specs.Bytes.{byte}
-use Rattle.rules.specs.Tables.{lent}
+use Rattle.rules.specs.Tables.{others}
 use Rattle.rules.proofs.Soundness.{within-low, within-high}
 use Rattle.operation.proofs.Lengths.{some}
+use Rattle.steps.proofs.Supply.{suited, countable, listable-by}
 use Rattle.serving.proofs.Ends.{fitting, fit-is}
 use Rattle.log_call.proofs.Commands.{no-host, no-block, no-list, obeyed}
 use borrow.Author.Needs.{needs}
@@ -17,7 +19,8 @@ known-host-requires c κs = search needs
 returns : tie.Need-returns
 returns c =
     let known = c .before in
-    λ rest g m s. no-host (lent _ _ rest) _ _ _ s _ (known .known-host .ensures) (not-true _ (c .if1 .taken))
+    let start = known .before .before .before .before .before .before .before .before .before .before in
+    no-host _ _ _ _ (start .pre .sound-now) _ (known .known-host .ensures) (not-true _ (c .if1 .taken))
 
 block-fits-requires : tie.Need-block-fits-requires
 block-fits-requires c κs = search needs
@@ -27,8 +30,8 @@ returns-2 c =
     let fits = c .before in
     let no1 = fits .before in
     let known = no1 .before in
-    λ rest g m s.
-    no-block (lent _ _ rest) _ _ _ s _ (known .known-host .ensures) (not-false _ (no1 .if1 .left)) _ (fits .block-fits .ensures) (not-true _ (c .if2 .taken))
+    let start = known .before .before .before .before .before .before .before .before .before .before in
+    no-block _ _ _ _ (start .pre .sound-now) _ (known .known-host .ensures) (not-false _ (no1 .if1 .left)) _ (fits .block-fits .ensures) (not-true _ (c .if2 .taken))
 
 shared-slice-read-decode : tie.Need-shared-slice-read-decode
 shared-slice-read-decode c =
@@ -55,23 +58,25 @@ returns-3 c =
     let fits = no2 .before in
     let no1 = fits .before in
     let known = no1 .before in
-    λ rest g m s.
-    no-list (lent _ _ rest) _ _ _ s _ (known .known-host .ensures) (not-false _ (no1 .if1 .left)) _ (fits .block-fits .ensures) (not-false _ (no2 .if2 .left)) _ (fit-is _ _ (told .decode .ensures) _ _ (given .parameters-fit .ensures)) (not-true _ (c .if3 .taken))
+    let start = known .before .before .before .before .before .before .before .before .before .before in
+    no-list _ _ _ _ (start .pre .sound-now) _ (known .known-host .ensures) (not-false _ (no1 .if1 .left)) _ (fits .block-fits .ensures) (not-false _ (no2 .if2 .left)) _ (fit-is _ _ (told .decode .ensures) _ _ (given .parameters-fit .ensures)) (not-true _ (c .if3 .taken))
 
 carry-out-requires : tie.Need-carry-out-requires
 unfolding byte
 carry-out-requires c κs =
-    let no3 = c .before .before in
+    let no3 = c .before .before .before in
     let given = no3 .before in
     let told = given .before in
     let no2 = told .before .before in
     let fits = no2 .before in
     let no1 = fits .before in
     let known = no1 .before in
-    let start = known .before .before .before .before .before .before .before in
+    let start = known .before .before .before .before .before .before .before .before .before .before in
     let h = sym (known .known-host .ensures) ∙ not-false _ (no1 .if1 .left) in
+    let suits = suited _ _ _ (start .pre .sound-now) _ (start .pre .runs-are) in
     record {
-      ready = start .pre;
+      ready = suits .ready-to-move;
+      counts = countable _ _ _ _ suits _ _ (within-high _ _ _ h);
       host-some = within-low _ _ _ h;
       host-most = within-high _ _ _ h;
       fitting = fitting _ _ (told .decode .ensures) (sym (fits .block-fits .ensures) ∙ not-false _ (no2 .if2 .left));
@@ -83,19 +88,22 @@ same-length c = search needs
 same-length-2 : tie.Need-same-length-2
 same-length-2 c = search needs
 
+same-length-3 : tie.Need-same-length-3
+same-length-3 c = search needs
+
 returns-4 : tie.Need-returns-4
 unfolding byte
 returns-4 c =
-    let done = c .before .before .before .before in
-    let no3 = done .before .before .before in
+    let done = c .before .before .before .before .before .before in
+    let no3 = done .before .before .before .before in
     let given = no3 .before in
     let told = given .before in
     let no2 = told .before .before in
     let fits = no2 .before in
     let no1 = fits .before in
     let known = no1 .before in
-    λ rest g m s.
-    obeyed (lent _ _ rest) _ _ _ s _ (known .known-host .ensures) (not-false _ (no1 .if1 .left)) _ (fits .block-fits .ensures) (not-false _ (no2 .if2 .left)) _ (fit-is _ _ (told .decode .ensures) _ _ (given .parameters-fit .ensures)) (not-false _ (no3 .if3 .left)) _ (fitting _ _ (told .decode .ensures) (sym (fits .block-fits .ensures) ∙ not-false _ (no2 .if2 .left)) .decoded) _ (done .carry-out .ensures rest g m)
+    let start = known .before .before .before .before .before .before .before .before .before .before in
+    obeyed _ _ _ _ (start .pre .sound-now) _ (known .known-host .ensures) (not-false _ (no1 .if1 .left)) _ (fits .block-fits .ensures) (not-false _ (no2 .if2 .left)) _ (fit-is _ _ (told .decode .ensures) _ _ (given .parameters-fit .ensures)) (not-false _ (no3 .if3 .left)) _ (fitting _ _ (told .decode .ensures) (sym (fits .block-fits .ensures) ∙ not-false _ (no2 .if2 .left)) .decoded) _ (done .carry-out .ensures (others _ _ _ _ []) (record { tags-is = refl; generations-is = refl; masks-is = refl; listable = listable-by _ _ _ (start .pre .sound-now) _ (start .pre .runs-are) }))
 
 pub obey-spec : {M : Type 1} → statement M
 obey-spec =
@@ -112,4 +120,5 @@ obey-spec =
     carry-out-requires
     same-length
     same-length-2
+    same-length-3
     returns-4)

@@ -1,6 +1,6 @@
 -- `log_call::occur` meets its contract. Assumes nothing.
 use borrow.Author.Needs.{needs}
-use Rattle.rules.specs.Tables.{lent}
+use Rattle.rules.specs.Tables.{lent, searching}
 use Rattle.log_call.proofs.Events.{nothing-done, import-done, export-done, reset-done}
 use Rattle.log_call.proofs.occur.Statement.{statement}
 use Rattle.log_call.proofs.occur.Tie as tie
@@ -48,7 +48,7 @@ returns-2 : tie.Need-returns-2
 returns-2 c =
     let import = c .before .before .before .before in
     let event = import .before .before .before .before in
-    λ rest e i whole. import-done (lent _ _ _) e _ _ _ _ (event .event .given .1) (import .import .ensures rest i whole)
+    λ rest e i whole. import-done (lent _ _ _) e _ _ _ _ (event .event .given .1) (import .import .ensures (searching rest _) i whole)
 
 same-length-3 : tie.Need-same-length-3
 same-length-3 c = search needs
@@ -60,7 +60,7 @@ returns-3 : tie.Need-returns-3
 returns-3 c =
     let export = c .before .before .before .before in
     let event = export .before .before .before .before in
-    λ rest e i whole. export-done (lent _ _ _) e _ _ _ (event .event2 .given .1) (export .export .ensures rest whole)
+    λ rest e i whole. export-done (lent _ _ _) e _ _ _ (event .event2 .given .1) (export .export .ensures (searching rest _) whole)
 
 same-length-5 : tie.Need-same-length-5
 same-length-5 c = search needs
@@ -68,10 +68,13 @@ same-length-5 c = search needs
 same-length-6 : tie.Need-same-length-6
 same-length-6 c = search needs
 
+same-length-7 : tie.Need-same-length-7
+same-length-7 c = search needs
+
 returns-4 : tie.Need-returns-4
 returns-4 c =
-    let reset = c .before .before .before .before in
-    λ rest e i whole. reset-done (lent _ _ _) e _ _ (reset .before .before .before .enum-told2 .given .1) (reset .reset .ensures rest whole)
+    let reset = c .before .before .before .before .before .before in
+    λ rest e i whole. reset-done (lent _ _ _) e _ _ (reset .before .before .before .before .enum-told2 .given .1) (reset .reset .ensures rest whole)
 
 pub occur-spec : {M : Type 1} → statement M
 occur-spec =
@@ -96,4 +99,5 @@ occur-spec =
     returns-3
     same-length-5
     same-length-6
+    same-length-7
     returns-4)

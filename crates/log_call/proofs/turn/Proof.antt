@@ -30,25 +30,25 @@ returns c =
 
 slice-reshare-prefix-carry : tie.Need-slice-reshare-prefix-carry
 slice-reshare-prefix-carry c =
-    let number = c .before .before .before .before in
+    let number = c .before .before .before .before .before in
     let read = number .before .before .before .before .before .before in
     held _ _ _ _ (read .read-line .ensures .0) (read .read-line .ensures .1) _ _ _ _ _ (number .number .given .1) .block-held
 
 slice-aggregate-carry : tie.Need-slice-aggregate-carry
 slice-aggregate-carry c =
-    let number = c .before .before .before .before .before in
+    let number = c .before .before .before .before .before .before in
     let read = number .before .before .before .before .before .before in
     block-long _ _ _ _ (read .read-line .ensures .0) (read .read-line .ensures .1) _ _ _ _ _ (number .number .given .1)
 
 slice-reshare-prefix-carry-2 : tie.Need-slice-reshare-prefix-carry-2
 slice-reshare-prefix-carry-2 c =
-    let number = c .before .before .before .before .before in
+    let number = c .before .before .before .before .before .before in
     let read = number .before .before .before .before .before .before in
     held _ _ _ _ (read .read-line .ensures .0) (read .read-line .ensures .1) _ _ _ _ _ (number .number .given .1) .list-held
 
 slice-aggregate-carry-2 : tie.Need-slice-aggregate-carry-2
 slice-aggregate-carry-2 c =
-    let number = c .before .before .before .before .before .before in
+    let number = c .before .before .before .before .before .before .before in
     let read = number .before .before .before .before .before .before in
     list-long _ _ _ _ (read .read-line .ensures .0) (read .read-line .ensures .1) _ _ _ _ _ (number .number .given .1)
 
@@ -67,37 +67,37 @@ same-length-5 c = search needs
 same-length-6 : tie.Need-same-length-6
 same-length-6 c = search needs
 
+same-length-7 : tie.Need-same-length-7
+same-length-7 c = search needs
+
 returns-2 : tie.Need-returns-2
 returns-2 c =
-    let carry = c .before .before .before .before .before in
-    let no1 = carry .before .before .before .before .before in
+    let carry = c .before .before .before .before .before .before .before in
+    let no1 = carry .before .before .before .before .before .before in
     let number = no1 .before .before in
     let read = number .before .before .before .before .before .before in
     (not-carried _ _ _ _ (read .read-line .ensures .0) (read .read-line .ensures .1) (lent _ _ _) _ _ _ _ _ _ (number .number .given .1) (no1 .if1 .left) _ _ (carry .carry .ensures _) (not-true _ (c .if2 .taken)), stopped-takes _)
 
-add-t34 : tie.Need-add-t34
-add-t34 c =
-    let carry = c .before .before .before .before .before in
-    let no1 = carry .before .before .before .before .before in
+add-t37 : tie.Need-add-t37
+add-t37 c =
+    let carry = c .before .before .before .before .before .before .before in
+    let no1 = carry .before .before .before .before .before .before in
     let number = no1 .before .before in
     let read = number .before .before .before .before .before .before in
-    let asked = read .before .before in
-    let start = asked .before .before .before .before .before .before .before .before .before .before .before in
-    omega (arith, start .good .1 .1 .1 .1 .1 .1 .1 .1 .1 .0, held _ _ _ _ (read .read-line .ensures .0) (read .read-line .ensures .1) _ _ _ _ _ (number .number .given .1) .inside)
-
-same-length-7 : tie.Need-same-length-7
-same-length-7 c = search needs
+    let lends = read .before .before .before in
+    let start = lends .before .before .before .before .before .before .before .before .before .before .before in
+    omega (arith, start .good .1 .1 .1 .1 .1 .1 .1 .1 .1 .1 .0, held _ _ _ _ (read .read-line .ensures .0) (read .read-line .ensures .1) _ _ _ _ _ (number .number .given .1) .inside)
 
 same-length-8 : tie.Need-same-length-8
 same-length-8 c = search needs
+
+same-length-9 : tie.Need-same-length-9
+same-length-9 c = search needs
 
 returns-3 : tie.Need-returns-3
 returns-3 c =
     let read = c .before .before .before .before .before .before in
     (another-form _ _ _ _ (read .read-line .ensures .0) (read .read-line .ensures .1) (lent _ _ _) _ (c .enum-told .given .1), stopped-takes _)
-
-same-length-9 : tie.Need-same-length-9
-same-length-9 c = search needs
 
 same-length-10 : tie.Need-same-length-10
 same-length-10 c = search needs
@@ -108,10 +108,16 @@ same-length-11 c = search needs
 same-length-12 : tie.Need-same-length-12
 same-length-12 c = search needs
 
+same-length-13 : tie.Need-same-length-13
+same-length-13 c = search needs
+
+same-length-14 : tie.Need-same-length-14
+same-length-14 c = search needs
+
 returns-4 : tie.Need-returns-4
 returns-4 c =
-    let carry = c .before .before .before .before .before in
-    let no1 = carry .before .before .before .before .before in
+    let carry = c .before .before .before .before .before .before .before in
+    let no1 = carry .before .before .before .before .before .before in
     let number = no1 .before .before in
     let read = number .before .before .before .before .before .before in
     (was-carried _ _ _ _ (read .read-line .ensures .0) (read .read-line .ensures .1) (lent _ _ _) _ _ _ _ _ _ (number .number .given .1) (no1 .if1 .left) _ _ (carry .carry .ensures _) _ (not-false _ (c .if2 .left)), takes _ _ _ _ (read .read-line .ensures .0) (read .read-line .ensures .1) _ _ _ _ _ (number .number .given .1))
@@ -135,13 +141,15 @@ turn-spec =
     same-length-4
     same-length-5
     same-length-6
-    returns-2
-    add-t34
     same-length-7
+    returns-2
+    add-t37
     same-length-8
-    returns-3
     same-length-9
+    returns-3
     same-length-10
     same-length-11
     same-length-12
+    same-length-13
+    same-length-14
     returns-4)

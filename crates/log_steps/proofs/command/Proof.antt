@@ -1,7 +1,7 @@
 -- `log_steps::command` meets its contract. Assumes nothing.
 use mathlib.Core.Path.{_∙_}
 use mathlib.Core.List.{[]}
-use Rattle.rules.specs.Tables.{lent}
+use Rattle.rules.specs.Tables.{lent, searching}
 use Rattle.rules.specs.Command.{act}
 use Rattle.order.specs.Ending.{reason}
 use Rattle.operation.specs.Meaning.{meaning}
@@ -30,7 +30,7 @@ reserve-requires : tie.Need-reserve-requires
 unfolding meaning
 reserve-requires c κs =
     let chosen = c .before .before in
-    let s = chosen .before .before .before .before .before .before .before .before .pre in
+    let s = chosen .before .before .before .before .before .before .before .before .before .before .pre in
     record {
       head-long = s .ready .head-length;
       runs-are = s .ready .runs-are;
@@ -47,7 +47,7 @@ release-requires : tie.Need-release-requires
 unfolding meaning
 release-requires c κs =
     let chosen = c .before .before in
-    let s = chosen .before .before .before .before .before .before .before .before .pre in
+    let s = chosen .before .before .before .before .before .before .before .before .before .before .pre in
     (s .ready .head-length, (s .host-most, sized _ _ _ (s .fitting) (chosen .enum-told4 .given .1)))
 
 enum-told-5 : tie.Need-enum-told-5
@@ -57,7 +57,7 @@ prevent-allow-requires : tie.Need-prevent-allow-requires
 unfolding meaning
 prevent-allow-requires c κs =
     let chosen = c .before in
-    let s = chosen .before .before .before .before .before .before .before .before .pre in
+    let s = chosen .before .before .before .before .before .before .before .before .before .before .pre in
     (s .ready .head-length, (s .host-some, (s .host-most, sized _ _ _ (s .fitting) (chosen .enum-told5 .given .1))))
 
 enum-told-6 : tie.Need-enum-told-6
@@ -67,7 +67,7 @@ move-medium-requires : tie.Need-move-medium-requires
 unfolding meaning
 move-medium-requires c κs =
     let chosen = c .before .before in
-    let s = chosen .before .before .before .before .before .before .before .before .pre in
+    let s = chosen .before .before .before .before .before .before .before .before .before .before .pre in
     (s .ready, (s .host-some, (s .host-most, sized _ _ _ (s .fitting) (chosen .enum-told6 .given .1))))
 
 enum-told-7 : tie.Need-enum-told-7
@@ -77,7 +77,7 @@ exchange-medium-requires : tie.Need-exchange-medium-requires
 unfolding meaning
 exchange-medium-requires c κs =
     let chosen = c .before .before in
-    let s = chosen .before .before .before .before .before .before .before .before .pre in
+    let s = chosen .before .before .before .before .before .before .before .before .before .before .pre in
     (s .ready, (s .host-some, (s .host-most, sized _ _ _ (s .fitting) (chosen .enum-told7 .given .1))))
 
 enum-told-8 : tie.Need-enum-told-8
@@ -95,6 +95,27 @@ good-requires-3 c κs = search needs
 enum-told-10 : tie.Need-enum-told-10
 enum-told-10 c = search needs
 
+send-volume-tag-requires : tie.Need-send-volume-tag-requires
+unfolding meaning
+send-volume-tag-requires c κs =
+    let chosen = c .before .before in
+    let s = chosen .before .before .before .before .before .before .before .before .before .before .pre in
+    let twelve = sized _ _ _ (s .fitting) (chosen .enum-told10 .given .1) in
+    ((s .ready .head-length, s .host-most), (s .counts twelve .whole, twelve))
+
+enum-told-11 : tie.Need-enum-told-11
+enum-told-11 c = search needs
+
+go-on-requires : tie.Need-go-on-requires
+unfolding meaning
+go-on-requires c κs =
+    let chosen = c .before .before .before in
+    let s = chosen .before .before .before .before .before .before .before .before .before .before .pre in
+    s .counts (sized _ _ _ (s .fitting) (chosen .enum-told11 .given .1))
+
+enum-told-12 : tie.Need-enum-told-12
+enum-told-12 c = search needs
+
 refuse-requires : tie.Need-refuse-requires
 refuse-requires c κs = search needs
 
@@ -106,7 +127,7 @@ unfolding act meaning
 returns c =
     let called = c .before .before in
     let chosen = called .before .before in
-    λ rest g m. acts _ (lent _ _ rest) _ _ _ _ _ (chosen .enum-told .given .1) (left-by (lent _ _ rest) [] _ _ (called .good2 .ensures _ rest []))
+    λ rest g. acts _ (lent _ _ (searching rest _)) _ _ _ _ _ (chosen .enum-told .given .1) (left-by (lent _ _ (searching rest _)) [] _ _ (called .good2 .ensures _ (searching rest _) []))
 
 same-length-2 : tie.Need-same-length-2
 same-length-2 c = search needs
@@ -116,7 +137,7 @@ unfolding act meaning
 returns-2 c =
     let called = c .before .before in
     let chosen = called .before .before in
-    λ rest g m. acts _ (lent _ _ rest) _ _ _ _ _ (chosen .enum-told2 .given .1) (called .forget .ensures _ rest _)
+    λ rest g. acts _ (lent _ _ (searching rest _)) _ _ _ _ _ (chosen .enum-told2 .given .1) (called .forget .ensures _ (searching rest _) _)
 
 same-length-3 : tie.Need-same-length-3
 same-length-3 c = search needs
@@ -129,7 +150,7 @@ unfolding act meaning
 returns-3 c =
     let called = c .before .before .before .before in
     let chosen = called .before .before .before in
-    λ rest g m. acts _ (lent _ _ rest) _ _ _ _ _ (chosen .enum-told3 .given .1) (left-by (lent _ _ rest) [] _ _ (called .reserve .ensures rest []))
+    λ rest g. acts _ (lent _ _ (searching rest _)) _ _ _ _ _ (chosen .enum-told3 .given .1) (left-by (lent _ _ (searching rest _)) [] _ _ (called .reserve .ensures (searching rest _) []))
 
 same-length-5 : tie.Need-same-length-5
 same-length-5 c = search needs
@@ -142,7 +163,7 @@ unfolding act meaning
 returns-4 c =
     let called = c .before .before .before .before in
     let chosen = called .before .before .before in
-    λ rest g m. acts _ (lent _ _ rest) _ _ _ _ _ (chosen .enum-told4 .given .1) (left-by (lent _ _ rest) [] _ _ (called .release .ensures rest []))
+    λ rest g. acts _ (lent _ _ (searching rest _)) _ _ _ _ _ (chosen .enum-told4 .given .1) (left-by (lent _ _ (searching rest _)) [] _ _ (called .release .ensures (searching rest _) []))
 
 same-length-7 : tie.Need-same-length-7
 same-length-7 c = search needs
@@ -152,7 +173,7 @@ unfolding act meaning
 returns-5 c =
     let called = c .before .before in
     let chosen = called .before .before in
-    λ rest g m. acts _ (lent _ _ rest) _ _ _ _ _ (chosen .enum-told5 .given .1) (left-by (lent _ _ rest) [] _ _ (called .prevent-allow .ensures _ rest []))
+    λ rest g. acts _ (lent _ _ (searching rest _)) _ _ _ _ _ (chosen .enum-told5 .given .1) (left-by (lent _ _ (searching rest _)) [] _ _ (called .prevent-allow .ensures _ (searching rest _) []))
 
 same-length-8 : tie.Need-same-length-8
 same-length-8 c = search needs
@@ -165,7 +186,7 @@ unfolding act meaning
 returns-6 c =
     let called = c .before .before .before .before in
     let chosen = called .before .before .before in
-    λ rest g m. acts _ (lent _ _ rest) _ _ _ _ _ (chosen .enum-told6 .given .1) (left-by (lent _ _ rest) [] _ _ (called .move-medium .ensures rest [] g m))
+    λ rest g. acts _ (lent _ _ (searching rest _)) _ _ _ _ _ (chosen .enum-told6 .given .1) (left-by (lent _ _ (searching rest _)) [] _ _ (called .move-medium .ensures (searching rest _) [] (g .generations-is) (g .masks-is)))
 
 same-length-10 : tie.Need-same-length-10
 same-length-10 c = search needs
@@ -178,7 +199,7 @@ unfolding act meaning
 returns-7 c =
     let called = c .before .before .before .before in
     let chosen = called .before .before .before in
-    λ rest g m. acts _ (lent _ _ rest) _ _ _ _ _ (chosen .enum-told7 .given .1) (left-by (lent _ _ rest) [] _ _ (called .exchange-medium .ensures rest [] g m))
+    λ rest g. acts _ (lent _ _ (searching rest _)) _ _ _ _ _ (chosen .enum-told7 .given .1) (left-by (lent _ _ (searching rest _)) [] _ _ (called .exchange-medium .ensures (searching rest _) [] (g .generations-is) (g .masks-is)))
 
 same-length-12 : tie.Need-same-length-12
 same-length-12 c = search needs
@@ -188,7 +209,7 @@ unfolding act meaning
 returns-8 c =
     let called = c .before .before in
     let chosen = called .before .before in
-    λ rest g m. acts _ (lent _ _ rest) _ _ _ _ _ (chosen .enum-told8 .given .1) ((left-by (lent _ _ rest) [] _ _ (called .good3 .ensures _ rest [])) ∙ listed (lent _ _ rest) _ _)
+    λ rest g. acts _ (lent _ _ (searching rest _)) _ _ _ _ _ (chosen .enum-told8 .given .1) ((left-by (lent _ _ (searching rest _)) [] _ _ (called .good3 .ensures _ (searching rest _) [])) ∙ listed (lent _ _ (searching rest _)) _ _)
 
 same-length-13 : tie.Need-same-length-13
 same-length-13 c = search needs
@@ -198,17 +219,46 @@ unfolding act meaning
 returns-9 c =
     let called = c .before .before in
     let chosen = called .before .before in
-    λ rest g m. acts _ (lent _ _ rest) _ _ _ _ _ (chosen .enum-told9 .given .1) ((left-by (lent _ _ rest) [] _ _ (called .good4 .ensures _ rest [])) ∙ paged (lent _ _ rest) _ _)
+    λ rest g. acts _ (lent _ _ (searching rest _)) _ _ _ _ _ (chosen .enum-told9 .given .1) ((left-by (lent _ _ (searching rest _)) [] _ _ (called .good4 .ensures _ (searching rest _) [])) ∙ paged (lent _ _ (searching rest _)) _ _)
 
 same-length-14 : tie.Need-same-length-14
 same-length-14 c = search needs
 
+same-length-15 : tie.Need-same-length-15
+same-length-15 c = search needs
+
 returns-10 : tie.Need-returns-10
-unfolding act meaning reason
+unfolding act meaning
 returns-10 c =
+    let called = c .before .before .before .before in
+    let chosen = called .before .before .before in
+    λ rest g. acts _ (lent _ _ (searching rest _)) _ _ _ _ _ (chosen .enum-told10 .given .1) (left-by (lent _ _ (searching rest _)) [] _ _ (called .send-volume-tag .ensures _ rest []))
+
+same-length-16 : tie.Need-same-length-16
+same-length-16 c = search needs
+
+same-length-17 : tie.Need-same-length-17
+same-length-17 c = search needs
+
+same-length-18 : tie.Need-same-length-18
+same-length-18 c = search needs
+
+returns-11 : tie.Need-returns-11
+unfolding act meaning
+returns-11 c =
+    let called = c .before .before .before .before in
+    let chosen = called .before .before .before .before in
+    λ rest g. acts _ (lent _ _ (searching rest _)) _ _ _ _ _ (chosen .enum-told11 .given .1) (called .go-on .ensures rest (g .tags-is) (g .listable))
+
+same-length-19 : tie.Need-same-length-19
+same-length-19 c = search needs
+
+returns-12 : tie.Need-returns-12
+unfolding act meaning reason
+returns-12 c =
     let called = c .before .before in
     let chosen = called .before .before in
-    λ rest g m. acts _ (lent _ _ rest) _ _ _ _ _ (chosen .enum-told10 .given .1) (left-by (lent _ _ rest) [] _ _ (called .refuse .ensures _ rest []))
+    λ rest g. acts _ (lent _ _ (searching rest _)) _ _ _ _ _ (chosen .enum-told12 .given .1) (left-by (lent _ _ (searching rest _)) [] _ _ (called .refuse .ensures _ (searching rest _) []))
 
 pub command-spec : {M : Type 1} → statement M
 command-spec =
@@ -233,6 +283,10 @@ command-spec =
     enum-told-9
     good-requires-3
     enum-told-10
+    send-volume-tag-requires
+    enum-told-11
+    go-on-requires
+    enum-told-12
     refuse-requires
     same-length
     returns
@@ -257,4 +311,11 @@ command-spec =
     same-length-13
     returns-9
     same-length-14
-    returns-10)
+    same-length-15
+    returns-10
+    same-length-16
+    same-length-17
+    same-length-18
+    returns-11
+    same-length-19
+    returns-12)

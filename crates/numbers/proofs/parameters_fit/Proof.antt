@@ -44,6 +44,19 @@ enum-told-9 c = search needs
 enum-told-10 : tie.Need-enum-told-10
 enum-told-10 c = search needs
 
+word-at-requires-2 : tie.Need-word-at-requires-2
+unfolding meaning
+word-at-requires-2 c κs = omega (arith, sized _ _ _ (c .before .before .before .before .pre) (c .enum-told10 .given .1))
+
+cast-result-2 : tie.Need-cast-result-2
+cast-result-2 c = search needs
+
+enum-told-11 : tie.Need-enum-told-11
+enum-told-11 c = search needs
+
+enum-told-12 : tie.Need-enum-told-12
+enum-told-12 c = search needs
+
 returns : tie.Need-returns
 unfolding wanted meaning
 returns c = rw (c .enum-told .given .1)
@@ -82,7 +95,15 @@ returns-9 c = rw (c .enum-told9 .given .1)
 
 returns-10 : tie.Need-returns-10
 unfolding wanted meaning
-returns-10 c = rw (c .enum-told10 .given .1)
+returns-10 c = rw (c .before .enum-told10 .given .1, c .word-at2 .ensures)
+
+returns-11 : tie.Need-returns-11
+unfolding wanted meaning
+returns-11 c = rw (c .enum-told11 .given .1)
+
+returns-12 : tie.Need-returns-12
+unfolding wanted meaning
+returns-12 c = rw (c .enum-told12 .given .1)
 
 pub parameters-fit-spec : {M : Type 1} → statement M
 parameters-fit-spec =
@@ -100,6 +121,10 @@ parameters-fit-spec =
     enum-told-8
     enum-told-9
     enum-told-10
+    word-at-requires-2
+    cast-result-2
+    enum-told-11
+    enum-told-12
     returns
     returns-2
     returns-3
@@ -109,4 +134,6 @@ parameters-fit-spec =
     returns-7
     returns-8
     returns-9
-    returns-10)
+    returns-10
+    returns-11
+    returns-12)

@@ -45,6 +45,14 @@ returns-10 : tie.Need-returns-10
 unfolding decoded meaning
 returns-10 c = search ladder depth 12
 
+returns-11 : tie.Need-returns-11
+unfolding decoded meaning
+returns-11 c = search ladder depth 13
+
+returns-12 : tie.Need-returns-12
+unfolding decoded meaning
+returns-12 c = search ladder depth 14
+
 pub decode-spec : {M : Type 1} → statement M
 decode-spec =
     tie.close
@@ -58,4 +66,6 @@ decode-spec =
     returns-7
     returns-8
     returns-9
-    returns-10)
+    returns-10
+    returns-11
+    returns-12)

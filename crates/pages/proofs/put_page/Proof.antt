@@ -1,5 +1,5 @@
 -- `pages::put_page` meets its contract. Assumes nothing.
-use mathlib.Core.Path.{_≡_, refl, sym}
+use mathlib.Core.Path.{_≡_, refl, sym, _∙_}
 use native.Mathlib.Omega.{arith}
 use borrow.Author.Tests.{eq-eqb, ne-eqb}
 use Prim.Native.Nat.{ℕ, _+_, _*_, _-_, _≤_}
@@ -10,30 +10,31 @@ use denote.Ref.{now}
 use Rattle.rules.specs.Choice.{when}
 use mathlib.Core.Bool.{Bool}
 use Rattle.rules.specs.Bytes.{three}
-use Rattle.rules.specs.Roster.{slots}
 use Rattle.rules.specs.Listing.{pageHeader}
+use Rattle.pages.specs.Marks.{markedOf}
 use Rattle.pages.specs.Pages.{stock, descriptors, shown}
 use Rattle.pages.proofs.Lent.{put-both}
 use Rattle.rules.proofs.Writes.{put-nothing}
+use Rattle.pages.proofs.Marked.{marks-length}
 use Rattle.pages.proofs.Descriptor.{run-length, page-bytes-is}
 use borrow.Author.Needs.{needs}
 use Rattle.pages.proofs.put_page.Statement.{statement}
 use Rattle.pages.proofs.put_page.Tie as tie
 
 -- the page has room
-room : (c : tie.After-width) → c .before .before .before .before .before .before .args .at + 8 + c .before .before .before .before .before .before .args .m * c .width .result
-    ≤ length (now (c .before .before .before .before .before .before .args .answer))
+room : (c : tie.After-width)
+    → (let a = c .before .before .before .before .before .before .before .args in a .at + 8 + a .m * c .width .result ≤ length (now (a .answer)))
 room c =
-    let s = c .before .before .before .before .before .before in
+    let s = c .before .before .before .before .before .before .before in
     let u = page-bytes-is (s .args .tagged) (s .args .m) (c .before .if1 .left) in
     rw (c .width .ensures) (omega (arith, u, s .pre .0))
 
 -- and keeps its length once its header is written
 kept : (c : tie.After-page-header)
-    → (let a = c .before .before .before .before .before .before .before .before .args in
+    → (let a = c .before .before .before .before .before .before .before .before .before .args in
     length (putMid (a .at) (a .at + 8 - a .at) (now (a .answer)) (c .page-header .last .0)) ≡ length (now (a .answer)))
 kept c =
-    let a = c .before .before .before .before .before .before .before .before .args in
+    let a = c .before .before .before .before .before .before .before .before .before .args in
     same-len-mid (a .at) (a .at + 8 - a .at) (now (a .answer)) (c .page-header .last .0) (c .page-header .kept .0)
 
 header-length : (tagged : Bool) (kind n : ℕ) → length (pageHeader tagged kind n) ≡ 8
@@ -42,7 +43,11 @@ header-length tagged kind n = refl
 
 returns : tie.Need-returns
 unfolding shown when
-returns c = simp (eq-eqb _ _ (c .if1 .taken)) (sym (put-nothing _ _))
+returns c =
+    let s = c .before .before .before .before .before .before in
+    let a = s .args in
+    let e = marks-length (now (a .marks)) (a .kind) (a .address) (a .place) (a .run) ∙ sym (s .pre .1 .0 .0) ∙ c .if1 .taken in
+    rw (eq-eqb _ _ e) (sym (put-nothing _ _))
 
 add-body : tie.Need-add-body
 add-body c = search needs
@@ -79,11 +84,14 @@ part-describe-run-end c = omega (arith, kept (c .before .before), room (c .befor
 
 describe-run-requires : tie.Need-describe-run-requires
 describe-run-requires c κs =
-    let s = (c .before .before .before .before .before .before .before .before .before .before .before) in
-    let k = kept (c .before .before .before) in
-    let f = room (c .before .before .before .before .before) in
-    let w = c .before .before .before .before .before .width .ensures in
-    (rw (← w) (simp (length-take, length-drop) (omega (arith, k, f))), (s .pre .1 .0 .0, (s .pre .1 .1 .0, s .pre .1 .1 .1)))
+    let headed = c .before .before .before in
+    let sized = headed .before .before in
+    let s = sized .before .before .before .before .before .before .before in
+    let k = kept headed in
+    let f = room sized in (
+      rw (← s .pre .1 .0 .0, ← sized .width .ensures) (simp (length-take, length-drop) (omega (arith, k, f))),
+      (s .pre .1 .1 .0, (s .pre .1 .1 .1 .0, s .pre .1 .1 .1 .1)),
+    )
 
 same-length : tie.Need-same-length
 same-length c = search needs
@@ -93,15 +101,18 @@ unfolding shown when
 returns-2 c =
     let headed = c .before .before .before .before .before .before in
     let sized = headed .before .before in
-    let s = sized .before .before .before .before .before .before in
+    let s = sized .before .before .before .before .before .before .before in
     let a = s .args in
     let w = sized .width in
     let t = stock (now (a .elements)) (now (a .tags)) (now (a .blank)) in
-    let d : List _ = descriptors (a .tagged) t (slots (a .kind) (a .address) (a .place) (a .m)) in
-    let e : length d ≡ a .m * w .result = rw (w .ensures) (run-length (a .tagged) t (a .kind) (a .address) (a .place) (a .m) (s .pre .1 .1 .1) (s .pre .1 .1 .0)) in
+    let ss : List _ = markedOf (now (a .marks)) (a .kind) (a .address) (a .place) (a .run) in
+    let d : List _ = descriptors (a .tagged) t ss in
+    let m : length ss ≡ a .m = marks-length (now (a .marks)) (a .kind) (a .address) (a .place) (a .run) ∙ sym (s .pre .1 .0 .0) in
+    let e : length d ≡ a .m * w .result =
+    rw (w .ensures, s .pre .1 .0 .0) (run-length (a .tagged) t (now (a .marks)) (a .kind) (a .address) (a .place) (a .run) (s .pre .1 .1 .1 .1) (s .pre .1 .1 .1 .0)) in
     let f = room sized in
     let h = header-length (a .tagged) (a .kind) (a .n) in
-    rw (c .before .before .describe-run .ensures, headed .page-header .ensures, ne-eqb (a .m) 0 (sized .before .if1 .left))
+    rw (c .before .before .describe-run .ensures, headed .page-header .ensures, m, ne-eqb (a .m) 0 (sized .before .if1 .left))
     (put-both (now (a .answer)) (a .at) (a .at + 8 - a .at) (a .at + 8) (a .at + 8 + a .m * w .result - (a .at + 8)) (pageHeader (a .tagged) (a .kind) (a .n)) d (omega arith) (omega arith) (omega arith) (omega arith))
 
 pub put-page-spec : {M : Type 1} → statement M

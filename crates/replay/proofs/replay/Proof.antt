@@ -19,6 +19,9 @@ same-length c = search needs
 same-length-2 : tie.Need-same-length-2
 same-length-2 c = search needs
 
+same-length-3 : tie.Need-same-length-3
+same-length-3 c = search needs
+
 returns : tie.Need-returns
 returns c =
     let yes1 = c .before in
@@ -36,22 +39,25 @@ slice-aggregate-turns c = search needs
 
 turns-requires : tie.Need-turns-requires
 turns-requires c κs =
-    let tabled = c .before .before .before .before in
+    let tabled = c .before .before .before .before .before in
     let no1 = tabled .before .before .before in
     let check = no1 .before .before in
     let whole = not-false _ (no1 .if1 .left) in
     (record { sound-now = sym (check .check .ensures .0) ∙ whole; runs-are = check .check .ensures .1 whole }, tabled .tabulate .ensures)
 
-same-length-3 : tie.Need-same-length-3
-same-length-3 c = search needs
-
 same-length-4 : tie.Need-same-length-4
 same-length-4 c = search needs
 
+same-length-5 : tie.Need-same-length-5
+same-length-5 c = search needs
+
+same-length-6 : tie.Need-same-length-6
+same-length-6 c = search needs
+
 returns-2 : tie.Need-returns-2
 returns-2 c =
-    let turns = c .before .before .before .before in
-    let tabled = turns .before .before .before .before .before in
+    let turns = c .before .before .before .before .before .before in
+    let tabled = turns .before .before .before .before .before .before in
     let no1 = tabled .before .before .before in
     let check = no1 .before .before in
     replayed (lent _ _ _) _ _ _ _ (check .check .ensures .0) (not-false _ (no1 .if1 .left)) _ (turns .turns .ensures)
@@ -64,11 +70,13 @@ replay-spec =
     told-requires
     same-length
     same-length-2
+    same-length-3
     returns
     slice-aggregate-tabulate
     tabulate-requires
     slice-aggregate-turns
     turns-requires
-    same-length-3
     same-length-4
+    same-length-5
+    same-length-6
     returns-2)

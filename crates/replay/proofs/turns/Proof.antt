@@ -3,6 +3,7 @@ use borrow.Author.Needs.{needs}
 use Prim.Native.Nat.{_-_}
 use native.Mathlib.Omega.{arith}
 use mathlib.Core.Path.{refl, sym, _∙_}
+use mathlib.Core.List.{[]}
 use Rattle.rules.specs.Tables.{lent, others}
 use Rattle.log_line.proofs.Text.{tail}
 use Rattle.replay.proofs.Ways.{told-ends, starts, all-done, log-ends, ten, Went, went, onward, still-kept, Going}
@@ -10,36 +11,37 @@ use Rattle.replay.proofs.turns.Statement.{statement}
 use Rattle.replay.proofs.turns.Tie as tie
 
 abbrev Inv-loop : tie.InvT-loop
-Inv-loop runs head₀ elements₀ tags blank generations masks digits log expected budget block₀ list₀ lines₀ place₀ next₀ head elements block list lines place next =
-    Going head₀ elements₀ (others tags blank generations masks) log expected budget runs head elements block list lines place next
+Inv-loop runs head₀ elements₀ tags blank generations masks search₀ digits log expected budget block₀ list₀ lines₀ place₀ next₀ head elements search block list lines place next =
+    Going head₀ elements₀ search₀ (others tags blank generations masks []) log expected budget runs head elements search block list lines place next
 
 abbrev μ-loop : tie.MeasureT-loop
-μ-loop runs head₀ elements₀ tags blank generations masks digits log expected budget block₀ list₀ lines₀ place₀ next₀ head elements block list lines place next =
+μ-loop runs head₀ elements₀ tags blank generations masks search₀ digits log expected budget block₀ list₀ lines₀ place₀ next₀ head elements search block list lines place next =
     budget - lines
 
 -- a line was applied
 went-on : (c : tie.After-known-told Inv-loop μ-loop)
-    → (let turn = c .before .before .before .before .before .before .before .before .before in
-    let no1 = turn .before .before .before .before .before .before in
+    → (let turn = c .before .before .before .before .before .before .before .before .before .before .before in
+    let no1 = turn .before .before .before .before .before .before .before in
     let round = no1 .before in
     let l = round .before .loop in
-    let start = round .before .before .before .before .before .before .before .before .before .before in
+    let start = round .before .before .before .before .before .before .before .before .before .before .before in
     Went (start .args .log .now) (l .place) (l .next) (c .before .taken .given .0 .0))
 went-on c =
-    let turn = c .before .before .before .before .before .before .before .before .before in
-    let no1 = turn .before .before .before .before .before .before in
+    let turn = c .before .before .before .before .before .before .before .before .before .before .before in
+    let no1 = turn .before .before .before .before .before .before .before in
     let round = no1 .before in
     let l = round .before .loop in
-    let start = round .before .before .before .before .before .before .before .before .before .before in
+    let start = round .before .before .before .before .before .before .before .before .before .before .before in
     let log = start .args .log .now in
     went (lent _ _ _) log _ _ (lent _ _ _) _ _ _ (l .inv .stands) (round .loop-test .taken) (l .inv .inside) (no1 .if1 .left) _ (tail log (l .place)) _ (lent _ _ _) (turn .turn .ensures .0) _ (c .before .taken .given .1) (turn .turn .ensures .1)
 
 loop-holds : tie.Need-loop-holds Inv-loop μ-loop
 loop-holds c =
-    let start = c .before .before .before .before .before .before .before .before in
+    let start = c .before .before .before .before .before .before .before .before .before in
     record {
       kept-head = refl;
       kept-elements = refl;
+      kept-search = refl;
       kept = start .pre .0;
       block-room = search needs;
       list-room = search needs;
@@ -56,6 +58,9 @@ same-length c = c .before .before .before .loop .inv .kept-head
 
 same-length-2 : tie.Need-same-length-2 Inv-loop μ-loop
 same-length-2 c = c .before .before .before .loop .inv .kept-elements
+
+same-length-3 : tie.Need-same-length-3 Inv-loop μ-loop
+same-length-3 c = c .before .before .before .loop .inv .kept-search
 
 returns : tie.Need-returns Inv-loop μ-loop
 returns c =
@@ -74,16 +79,16 @@ part-text-end : tie.Need-part-text-end Inv-loop μ-loop
 part-text-end c = search needs
 
 slice-aggregate-turn : tie.Need-slice-aggregate-turn Inv-loop μ-loop
-slice-aggregate-turn c = sym (c .before .before .before .before .before .before .loop .inv .block-room)
+slice-aggregate-turn c = sym (c .before .before .before .before .before .before .before .loop .inv .block-room)
 
 slice-aggregate-turn-2 : tie.Need-slice-aggregate-turn-2 Inv-loop μ-loop
-slice-aggregate-turn-2 c = sym (c .before .before .before .before .before .before .before .loop .inv .list-room)
+slice-aggregate-turn-2 c = sym (c .before .before .before .before .before .before .before .before .loop .inv .list-room)
 
 turn-requires : tie.Need-turn-requires Inv-loop μ-loop
 turn-requires c κs =
-    let round = c .before .before .before .before .before .before .before in
+    let round = c .before .before .before .before .before .before .before .before in
     let l = round .loop in
-    let start = round .before .before .before .before .before .before .before .before .before in
+    let start = round .before .before .before .before .before .before .before .before .before .before in
     (l .inv .kept, (start .pre .1, (omega (arith, l .inv .block-room), omega (arith, l .inv .list-room))))
 
 enum-told : tie.Need-enum-told Inv-loop μ-loop
@@ -92,29 +97,37 @@ enum-told c = search needs
 told-requires-2 : tie.Need-told-requires-2 Inv-loop μ-loop
 told-requires-2 c κs = search needs
 
-same-length-3 : tie.Need-same-length-3 Inv-loop μ-loop
-same-length-3 c =
-    let turn = c .before .before .before .before .before .before .before .before .before in
-    let no1 = turn .before .before .before .before .before .before in
+same-length-4 : tie.Need-same-length-4 Inv-loop μ-loop
+same-length-4 c =
+    let turn = c .before .before .before .before .before .before .before .before .before .before .before in
+    let no1 = turn .before .before .before .before .before .before .before in
     let round = no1 .before in
     let l = round .before .loop in
     turn .turn .kept .1 .0 ∙ l .inv .kept-head
 
-same-length-4 : tie.Need-same-length-4 Inv-loop μ-loop
-same-length-4 c =
-    let turn = c .before .before .before .before .before .before .before .before .before in
-    let no1 = turn .before .before .before .before .before .before in
+same-length-5 : tie.Need-same-length-5 Inv-loop μ-loop
+same-length-5 c =
+    let turn = c .before .before .before .before .before .before .before .before .before .before .before in
+    let no1 = turn .before .before .before .before .before .before .before in
     let round = no1 .before in
     let l = round .before .loop in
     turn .turn .kept .1 .1 .0 ∙ l .inv .kept-elements
 
-returns-2 : tie.Need-returns-2 Inv-loop μ-loop
-returns-2 c =
-    let turn = c .before .before .before .before .before .before .before .before .before in
-    let no1 = turn .before .before .before .before .before .before in
+same-length-6 : tie.Need-same-length-6 Inv-loop μ-loop
+same-length-6 c =
+    let turn = c .before .before .before .before .before .before .before .before .before .before .before in
+    let no1 = turn .before .before .before .before .before .before .before in
     let round = no1 .before in
     let l = round .before .loop in
-    let start = round .before .before .before .before .before .before .before .before .before .before in
+    turn .turn .kept .1 .1 .1 .1 .1 .1 .1 .0 ∙ l .inv .kept-search
+
+returns-2 : tie.Need-returns-2 Inv-loop μ-loop
+returns-2 c =
+    let turn = c .before .before .before .before .before .before .before .before .before .before .before in
+    let no1 = turn .before .before .before .before .before .before .before in
+    let round = no1 .before in
+    let l = round .before .loop in
+    let start = round .before .before .before .before .before .before .before .before .before .before .before in
     let log = start .args .log .now in
     told-ends _ _ _ _ _ _ _ (c .told2 .ensures) (ten (lent _ _ _) log _ _ (lent _ _ _) _ _ _ (l .inv .stands) (round .loop-test .taken) (l .inv .inside) (no1 .if1 .left) _ (tail log (l .place)) _ (lent _ _ _) (turn .turn .ensures .0) (c .before .enum-told .given .1))
 
@@ -123,18 +136,18 @@ enum-known-taken c = search needs
 
 add-place : tie.Need-add-place Inv-loop μ-loop
 add-place c =
-    let turn = c .before .before .before .before .before .before .before .before .before in
-    let no1 = turn .before .before .before .before .before .before in
+    let turn = c .before .before .before .before .before .before .before .before .before .before .before in
+    let no1 = turn .before .before .before .before .before .before .before in
     let round = no1 .before in
-    let start = round .before .before .before .before .before .before .before .before .before .before in
-    omega (arith, start .good .1 .1 .1 .1 .1 .1 .1 .1 .0, went-on c .inside)
+    let start = round .before .before .before .before .before .before .before .before .before .before .before in
+    omega (arith, start .good .1 .1 .1 .1 .1 .1 .1 .1 .1 .0, went-on c .inside)
 
 add-lines : tie.Need-add-lines Inv-loop μ-loop
 add-lines c =
-    let turn = c .before .before .before .before .before .before .before .before .before in
-    let no1 = turn .before .before .before .before .before .before in
+    let turn = c .before .before .before .before .before .before .before .before .before .before .before in
+    let no1 = turn .before .before .before .before .before .before .before in
     let round = no1 .before in
-    let start = round .before .before .before .before .before .before .before .before .before .before in
+    let start = round .before .before .before .before .before .before .before .before .before .before .before in
     omega (arith, round .loop-test .taken, start .fits)
 
 add-next : tie.Need-add-next Inv-loop μ-loop
@@ -142,25 +155,26 @@ add-next c = omega (arith, went-on c .low)
 
 loop-less : tie.Need-loop-less Inv-loop μ-loop
 loop-less c =
-    let turn = c .before .before .before .before .before .before .before .before .before in
-    let no1 = turn .before .before .before .before .before .before in
+    let turn = c .before .before .before .before .before .before .before .before .before .before .before in
+    let no1 = turn .before .before .before .before .before .before .before in
     let round = no1 .before in
     omega (arith, round .loop-test .taken)
 
 loop-again : tie.Need-loop-again Inv-loop μ-loop
 loop-again c =
-    let turn = c .before .before .before .before .before .before .before .before .before in
-    let no1 = turn .before .before .before .before .before .before in
+    let turn = c .before .before .before .before .before .before .before .before .before .before .before in
+    let no1 = turn .before .before .before .before .before .before .before in
     let round = no1 .before in
     let l = round .before .loop in
-    let start = round .before .before .before .before .before .before .before .before .before .before in
+    let start = round .before .before .before .before .before .before .before .before .before .before .before in
     let log = start .args .log .now in
     record {
       kept-head = turn .turn .kept .1 .0 ∙ l .inv .kept-head;
       kept-elements = turn .turn .kept .1 .1 .0 ∙ l .inv .kept-elements;
-      kept = still-kept _ _ _ _ (l .inv .kept) _ _ _ _ _ (turn .turn .ensures .0);
-      block-room = turn .turn .kept .1 .1 .1 .1 .1 .1 .1 .1 .1 .1 .0 ∙ l .inv .block-room;
-      list-room = turn .turn .kept .1 .1 .1 .1 .1 .1 .1 .1 .1 .1 .1 .0 ∙ l .inv .list-room;
+      kept-search = turn .turn .kept .1 .1 .1 .1 .1 .1 .1 .0 ∙ l .inv .kept-search;
+      kept = still-kept _ _ _ _ (l .inv .kept) _ _ _ _ _ _ (turn .turn .ensures .0);
+      block-room = turn .turn .kept .1 .1 .1 .1 .1 .1 .1 .1 .1 .1 .1 .0 ∙ l .inv .block-room;
+      list-room = turn .turn .kept .1 .1 .1 .1 .1 .1 .1 .1 .1 .1 .1 .1 .0 ∙ l .inv .list-room;
       within-budget = omega (arith, round .loop-test .taken);
       inside = went-on c .inside;
       stands = onward (lent _ _ _) log _ _ (lent _ _ _) _ _ _ (l .inv .stands) (round .loop-test .taken) (l .inv .inside) (no1 .if1 .left) _ (tail log (l .place)) _ (lent _ _ _) (turn .turn .ensures .0) _ (c .before .taken .given .1) (turn .turn .ensures .1);
@@ -169,11 +183,14 @@ loop-again c =
 told-requires-3 : tie.Need-told-requires-3 Inv-loop μ-loop
 told-requires-3 c κs = search needs
 
-same-length-5 : tie.Need-same-length-5 Inv-loop μ-loop
-same-length-5 c = c .before .before .loop .inv .kept-head
+same-length-7 : tie.Need-same-length-7 Inv-loop μ-loop
+same-length-7 c = c .before .before .loop .inv .kept-head
 
-same-length-6 : tie.Need-same-length-6 Inv-loop μ-loop
-same-length-6 c = c .before .before .loop .inv .kept-elements
+same-length-8 : tie.Need-same-length-8 Inv-loop μ-loop
+same-length-8 c = c .before .before .loop .inv .kept-elements
+
+same-length-9 : tie.Need-same-length-9 Inv-loop μ-loop
+same-length-9 c = c .before .before .loop .inv .kept-search
 
 returns-3 : tie.Need-returns-3 Inv-loop μ-loop
 returns-3 c =
@@ -190,6 +207,7 @@ turns-spec =
     told-requires
     same-length
     same-length-2
+    same-length-3
     returns
     sub-text
     part-text-start
@@ -199,8 +217,9 @@ turns-spec =
     turn-requires
     enum-told
     told-requires-2
-    same-length-3
     same-length-4
+    same-length-5
+    same-length-6
     returns-2
     enum-known-taken
     add-place
@@ -209,6 +228,7 @@ turns-spec =
     loop-less
     loop-again
     told-requires-3
-    same-length-5
-    same-length-6
+    same-length-7
+    same-length-8
+    same-length-9
     returns-3)

@@ -30,6 +30,9 @@ same-length c = search needs
 same-length-2 : tie.Need-same-length-2
 same-length-2 c = search needs
 
+same-length-3 : tie.Need-same-length-3
+same-length-3 c = search needs
+
 returns : tie.Need-returns
 unfolding judge judged afterNumbers byte
 returns c =
@@ -42,11 +45,14 @@ returns c =
 numbered-requires-2 : tie.Need-numbered-requires-2
 numbered-requires-2 c κs = search needs
 
-same-length-3 : tie.Need-same-length-3
-same-length-3 c = search needs
-
 same-length-4 : tie.Need-same-length-4
 same-length-4 c = search needs
+
+same-length-5 : tie.Need-same-length-5
+same-length-5 c = search needs
+
+same-length-6 : tie.Need-same-length-6
+same-length-6 c = search needs
 
 returns-2 : tie.Need-returns-2
 unfolding judge judged afterNumbers byte
@@ -66,11 +72,14 @@ block-fits-requires c κs = search needs
 numbered-requires-3 : tie.Need-numbered-requires-3
 numbered-requires-3 c κs = search needs
 
-same-length-5 : tie.Need-same-length-5
-same-length-5 c = search needs
+same-length-7 : tie.Need-same-length-7
+same-length-7 c = search needs
 
-same-length-6 : tie.Need-same-length-6
-same-length-6 c = search needs
+same-length-8 : tie.Need-same-length-8
+same-length-8 c = search needs
+
+same-length-9 : tie.Need-same-length-9
+same-length-9 c = search needs
 
 returns-3 : tie.Need-returns-3
 unfolding judge judged afterNumbers byte
@@ -107,11 +116,14 @@ parameters-fit-requires c κs =
 numbered-requires-4 : tie.Need-numbered-requires-4
 numbered-requires-4 c κs = search needs
 
-same-length-7 : tie.Need-same-length-7
-same-length-7 c = search needs
+same-length-10 : tie.Need-same-length-10
+same-length-10 c = search needs
 
-same-length-8 : tie.Need-same-length-8
-same-length-8 c = search needs
+same-length-11 : tie.Need-same-length-11
+same-length-11 c = search needs
+
+same-length-12 : tie.Need-same-length-12
+same-length-12 c = search needs
 
 returns-4 : tie.Need-returns-4
 unfolding judge judged afterNumbers byte
@@ -134,14 +146,14 @@ returns-4 c =
 
 cast-steps : tie.Need-cast-steps
 cast-steps c =
-    let known = c .before .before .before .before .before .before .before .before .before in
+    let known = c .before .before .before .before .before .before .before .before .before .before in
     let asked = known .before .before in
     omega (arith, within-high _ _ _ (sym (asked .known-host .ensures) ∙ not-false _ (known .if2 .left)))
 
 steps-requires : tie.Need-steps-requires
 unfolding byte
 steps-requires c κs =
-    let told = c .before .before .before .before .before .before in
+    let told = c .before .before .before .before .before .before .before in
     let fits = told .before .before in
     let read = fits .before in
     let known = read .before in
@@ -156,20 +168,23 @@ steps-requires c κs =
       fitting = fitting _ _ (told .decode .ensures) (sym (read .block-fits .ensures) ∙ not-false _ (fits .if3 .left));
     }
 
-same-length-9 : tie.Need-same-length-9
-same-length-9 c = search needs
+same-length-13 : tie.Need-same-length-13
+same-length-13 c = search needs
 
-same-length-10 : tie.Need-same-length-10
-same-length-10 c = search needs
+same-length-14 : tie.Need-same-length-14
+same-length-14 c = search needs
 
-same-length-11 : tie.Need-same-length-11
-same-length-11 c = search needs
+same-length-15 : tie.Need-same-length-15
+same-length-15 c = search needs
+
+same-length-16 : tie.Need-same-length-16
+same-length-16 c = search needs
 
 returns-5 : tie.Need-returns-5
 unfolding judge judged afterNumbers byte
 returns-5 c =
-    let called = c .before .before .before .before .before .before in
-    let wholly = called .before .before .before .before .before in
+    let called = c .before .before .before .before .before .before .before .before in
+    let wholly = called .before .before .before .before .before .before in
     let wanted = wholly .before in
     let told = wanted .before in
     let fits = told .before .before in
@@ -195,26 +210,31 @@ command-spec =
     numbered-requires
     same-length
     same-length-2
+    same-length-3
     returns
     numbered-requires-2
-    same-length-3
     same-length-4
+    same-length-5
+    same-length-6
     returns-2
     block-fits-requires
     numbered-requires-3
-    same-length-5
-    same-length-6
+    same-length-7
+    same-length-8
+    same-length-9
     returns-3
     shared-slice-read-decode
     decode-requires
     parameters-fit-requires
     numbered-requires-4
-    same-length-7
-    same-length-8
+    same-length-10
+    same-length-11
+    same-length-12
     returns-4
     cast-steps
     steps-requires
-    same-length-9
-    same-length-10
-    same-length-11
+    same-length-13
+    same-length-14
+    same-length-15
+    same-length-16
     returns-5)

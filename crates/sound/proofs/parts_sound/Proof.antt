@@ -42,7 +42,7 @@ elements-sound-requires c κs =
     let two = c .before .before .before .before in
     let one = two .before .before in
     let head = one .before in
-    let start = head .before .before .before .before .before .before .before in
+    let start = head .before .before .before .before .before .before .before .before in
     (rest-top _ _ _ (two .before .rest-sound .ensures []) (two .if2 .left) (c .before .volumes .ensures), shelved _ _ _ (search needs) (start .pre .1 .0) (start .pre .1 .1) (came _ _ (head .sound .ensures) (one .if1 .left)))
 
 returns-3 : tie.Need-returns-3
@@ -52,7 +52,7 @@ returns-3 c =
     let two = read .before .before .before .before in
     let one = two .before .before in
     let head = one .before in
-    let start = head .before .before .before .before .before .before .before in
+    let start = head .before .before .before .before .before .before .before .before in
     sound-by _ _ (start .pre .1 .1) _ _ _ _ _ (read .before .before .unit .ensures) (read .before .volumes .ensures) (read .panel .ensures) _
     (all-not-go _ _ _ _ (head .sound .ensures) (one .if1 .left)
     (all-not-go _ _ _ _ (two .before .rest-sound .ensures _) (two .if2 .left) (all-not-stop _ _ _ (told .elements-sound .ensures) (c .if3 .taken))))
@@ -67,7 +67,7 @@ drives-sound-requires c κs =
     let two = told .before .before .before .before .before in
     let one = two .before .before in
     let head = one .before in
-    let start = head .before .before .before .before .before .before .before in
+    let start = head .before .before .before .before .before .before .before .before in
     drives-lie _ _ _ (search needs) (start .pre .1 .0) (start .pre .1 .1) (came _ _ (head .sound .ensures) (one .if1 .left)) _ _ _ _ (came _ _ (told .elements-sound .ensures) (three .if3 .left))
 
 returns-4 : tie.Need-returns-4
@@ -78,7 +78,7 @@ returns-4 c =
     let two = read .before .before .before .before in
     let one = two .before .before in
     let head = one .before in
-    let start = head .before .before .before .before .before .before .before in
+    let start = head .before .before .before .before .before .before .before .before in
     sound-by _ _ (start .pre .1 .1) _ _ _ _ _ (read .before .before .unit .ensures) (read .before .volumes .ensures) (read .panel .ensures) _
     (all-not-go _ _ _ _ (head .sound .ensures) (one .if1 .left)
     (all-not-go _ _ _ _ (two .before .rest-sound .ensures _) (two .if2 .left)

@@ -22,11 +22,34 @@ generations-sound-requires c κs = search needs
 returns-2 : tie.Need-returns-2
 unfolding restSound
 returns-2 c = λ masks.
-    let counted = c .before in
+    let listed = c .before in
+    let counted = listed .before in
     let one = counted .before in
     all-not-go _ _ _ _ (one .before .labels-sound .ensures) (one .if1 .left)
-    (all-last _ _ (top-by _ _ _ (counted .volumes .ensures) _ (c .generations-sound .ensures)))
+    (all-not-stop _ _ _ (top-by _ _ _ (counted .volumes .ensures) _ (listed .generations-sound .ensures)) (c .if2 .taken))
+
+search-sound-requires : tie.Need-search-sound-requires
+search-sound-requires c κs = search needs
+
+returns-3 : tie.Need-returns-3
+unfolding restSound
+returns-3 c = λ masks.
+    let two = c .before in
+    let listed = two .before in
+    let counted = listed .before in
+    let one = counted .before in
+    all-not-go _ _ _ _ (one .before .labels-sound .ensures) (one .if1 .left)
+    (all-not-go _ _ _ _ (top-by _ _ _ (counted .volumes .ensures) _ (listed .generations-sound .ensures)) (two .if2 .left)
+    (all-last _ _ (c .search-sound .ensures)))
 
 pub rest-sound-spec : {M : Type 1} → statement M
 rest-sound-spec =
-    tie.close (tie.spec labels-sound-requires returns volumes-requires generations-sound-requires returns-2)
+    tie.close
+    (tie.spec
+    labels-sound-requires
+    returns
+    volumes-requires
+    generations-sound-requires
+    returns-2
+    search-sound-requires
+    returns-3)

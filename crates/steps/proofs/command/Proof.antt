@@ -1,14 +1,15 @@
 -- `steps::command` meets its contract. Assumes nothing.
 use mathlib.Core.Path.{refl, sym, _∙_}
 use mathlib.Core.List.{[]}
-use Rattle.rules.specs.Tables.{lent, bare}
+use Rattle.rules.specs.Tables.{lent, others, bare}
 use Rattle.rules.specs.Command.{act}
-use Rattle.rules.proofs.Untouched.{good-fits, move-fits, exchange-fits, reserve-fits, release-fits, prevent-fits, refused-fits}
+use Rattle.rules.proofs.Untouched.{good-fits, move-fits, exchange-fits, reserve-fits, release-fits, prevent-fits, tag-fits, refused-fits}
 use Rattle.rules.proofs.Rungs.{ends-as}
 use Rattle.rules.proofs.Pages.{answered}
 use Rattle.order.specs.Ending.{reason}
 use Rattle.operation.specs.Meaning.{meaning}
 use Rattle.operation.proofs.Lengths.{sized}
+use Rattle.steps.proofs.Supply.{findable}
 use Rattle.steps.proofs.Ends.{acts}
 use borrow.Author.Needs.{needs}
 use Rattle.steps.proofs.command.Statement.{statement}
@@ -20,7 +21,7 @@ enum-told c = search needs
 good-requires : tie.Need-good-requires
 good-requires c κs =
     let chosen = c .before in
-    let began = chosen .before .before .before .before .before .before .before .before .before .before .before in
+    let began = chosen .before .before .before .before .before .before .before .before .before .before .before .before in
     let s = began .pre .0 in
     (s .suited .ready-to-move .head-length, s .host-most)
 
@@ -31,7 +32,7 @@ request-sense-requires : tie.Need-request-sense-requires
 unfolding meaning
 request-sense-requires c κs =
     let chosen = c .before .before in
-    let began = chosen .before .before .before .before .before .before .before .before .before .before .before in
+    let began = chosen .before .before .before .before .before .before .before .before .before .before .before .before in
     let s = began .pre .0 in
     (s .suited .ready-to-move .head-length, (s .host-most, sized _ _ _ (s .fitting) (chosen .enum-told2 .given .1)))
 
@@ -42,7 +43,7 @@ reserve-requires : tie.Need-reserve-requires
 unfolding meaning
 reserve-requires c κs =
     let chosen = c .before .before in
-    let began = chosen .before .before .before .before .before .before .before .before .before .before .before in
+    let began = chosen .before .before .before .before .before .before .before .before .before .before .before .before in
     let s = began .pre .0 in
     record {
       head-long = s .suited .ready-to-move .head-length;
@@ -60,7 +61,7 @@ release-requires : tie.Need-release-requires
 unfolding meaning
 release-requires c κs =
     let chosen = c .before .before in
-    let began = chosen .before .before .before .before .before .before .before .before .before .before .before in
+    let began = chosen .before .before .before .before .before .before .before .before .before .before .before .before in
     let s = began .pre .0 in
     (s .suited .ready-to-move .head-length, (s .host-most, sized _ _ _ (s .fitting) (chosen .enum-told4 .given .1)))
 
@@ -71,7 +72,7 @@ prevent-allow-requires : tie.Need-prevent-allow-requires
 unfolding meaning
 prevent-allow-requires c κs =
     let chosen = c .before in
-    let began = chosen .before .before .before .before .before .before .before .before .before .before .before in
+    let began = chosen .before .before .before .before .before .before .before .before .before .before .before .before in
     let s = began .pre .0 in
     (s .suited .ready-to-move .head-length, (s .host-some, (s .host-most, sized _ _ _ (s .fitting) (chosen .enum-told5 .given .1))))
 
@@ -82,7 +83,7 @@ move-medium-requires : tie.Need-move-medium-requires
 unfolding meaning
 move-medium-requires c κs =
     let chosen = c .before .before in
-    let began = chosen .before .before .before .before .before .before .before .before .before .before .before in
+    let began = chosen .before .before .before .before .before .before .before .before .before .before .before .before in
     let s = began .pre .0 in
     (s .suited .ready-to-move, (s .host-some, (s .host-most, sized _ _ _ (s .fitting) (chosen .enum-told6 .given .1))))
 
@@ -93,7 +94,7 @@ exchange-medium-requires : tie.Need-exchange-medium-requires
 unfolding meaning
 exchange-medium-requires c κs =
     let chosen = c .before .before in
-    let began = chosen .before .before .before .before .before .before .before .before .before .before .before in
+    let began = chosen .before .before .before .before .before .before .before .before .before .before .before .before in
     let s = began .pre .0 in
     (s .suited .ready-to-move, (s .host-some, (s .host-most, sized _ _ _ (s .fitting) (chosen .enum-told7 .given .1))))
 
@@ -104,7 +105,7 @@ read-element-status-requires : tie.Need-read-element-status-requires
 unfolding meaning
 read-element-status-requires c κs =
     let chosen = c .before .before .before in
-    let began = chosen .before .before .before .before .before .before .before .before .before .before .before in
+    let began = chosen .before .before .before .before .before .before .before .before .before .before .before .before in
     let s = began .pre .0 in
     s .suited .ready-to-list _ _ (s .host-most) (sized _ _ _ (s .fitting) (chosen .enum-told8 .given .1))
 
@@ -115,7 +116,7 @@ mode-sense-requires : tie.Need-mode-sense-requires
 unfolding meaning
 mode-sense-requires c κs =
     let chosen = c .before .before in
-    let began = chosen .before .before .before .before .before .before .before .before .before .before .before in
+    let began = chosen .before .before .before .before .before .before .before .before .before .before .before .before in
     let s = began .pre .0 in
     record {
       head-long = s .suited .ready-to-move .head-length;
@@ -127,10 +128,32 @@ mode-sense-requires c κs =
 enum-told-10 : tie.Need-enum-told-10
 enum-told-10 c = search needs
 
+send-volume-tag-requires : tie.Need-send-volume-tag-requires
+unfolding meaning
+send-volume-tag-requires c κs =
+    let chosen = c .before .before in
+    let began = chosen .before .before .before .before .before .before .before .before .before .before .before .before in
+    let s = began .pre .0 in
+    ((s .suited .ready-to-move .head-length, s .host-most), (s .suited .search-whole, sized _ _ _ (s .fitting) (chosen .enum-told10 .given .1)))
+
+enum-told-11 : tie.Need-enum-told-11
+enum-told-11 c = search needs
+
+request-volume-element-address-requires : tie.Need-request-volume-element-address-requires
+unfolding meaning
+request-volume-element-address-requires c κs =
+    let chosen = c .before .before .before .before in
+    let began = chosen .before .before .before .before .before .before .before .before .before .before .before .before in
+    let s = began .pre .0 in
+    findable _ _ _ _ (s .suited) _ _ (s .host-most) (sized _ _ _ (s .fitting) (chosen .enum-told11 .given .1))
+
+enum-told-12 : tie.Need-enum-told-12
+enum-told-12 c = search needs
+
 refuse-requires : tie.Need-refuse-requires
 refuse-requires c κs =
     let chosen = c .before in
-    let began = chosen .before .before .before .before .before .before .before .before .before .before .before in
+    let began = chosen .before .before .before .before .before .before .before .before .before .before .before .before in
     let s = began .pre .0 in
     (s .suited .ready-to-move .head-length, s .host-most)
 
@@ -251,12 +274,44 @@ returns-9 c =
 same-length-18 : tie.Need-same-length-18
 same-length-18 c = search needs
 
+same-length-19 : tie.Need-same-length-19
+same-length-19 c = search needs
+
 returns-10 : tie.Need-returns-10
-unfolding act meaning reason
+unfolding act meaning
 returns-10 c =
+    let called = c .before .before .before .before in
+    let chosen = called .before .before .before in
+    ends-as _ _ (called .send-volume-tag .ensures _ (others _ _ _ _ []) _) (sym (tag-fits _ _ _ _ _) ∙ acts _ _ (chosen .enum-told10 .given .1) _ _ _ _ _)
+
+same-length-20 : tie.Need-same-length-20
+same-length-20 c = search needs
+
+same-length-21 : tie.Need-same-length-21
+same-length-21 c = search needs
+
+same-length-22 : tie.Need-same-length-22
+same-length-22 c = search needs
+
+same-length-23 : tie.Need-same-length-23
+same-length-23 c = search needs
+
+returns-11 : tie.Need-returns-11
+unfolding act meaning
+returns-11 c =
+    let called = c .before .before .before .before .before .before in
+    let chosen = called .before .before .before .before .before in
+    ends-as _ _ (called .request-volume-element-address .ensures (others _ _ _ _ []) (record { tags-is = refl; blank-is = refl })) (acts _ _ (chosen .enum-told11 .given .1) _ _ _ _ _)
+
+same-length-24 : tie.Need-same-length-24
+same-length-24 c = search needs
+
+returns-12 : tie.Need-returns-12
+unfolding act meaning reason
+returns-12 c =
     let called = c .before .before in
     let chosen = called .before .before in
-    ends-as _ _ (called .refuse .ensures _ _ _) (sym (refused-fits (lent [] [] bare) _ [] _ _) ∙ acts _ _ (chosen .enum-told10 .given .1) _ _ _ _ _)
+    ends-as _ _ (called .refuse .ensures _ _ _) (sym (refused-fits (lent [] [] bare) _ [] _ _) ∙ acts _ _ (chosen .enum-told12 .given .1) _ _ _ _ _)
 
 pub command-spec : {M : Type 1} → statement M
 command-spec =
@@ -281,6 +336,10 @@ command-spec =
     enum-told-9
     mode-sense-requires
     enum-told-10
+    send-volume-tag-requires
+    enum-told-11
+    request-volume-element-address-requires
+    enum-told-12
     refuse-requires
     same-length
     returns
@@ -309,4 +368,12 @@ command-spec =
     same-length-17
     returns-9
     same-length-18
-    returns-10)
+    same-length-19
+    returns-10
+    same-length-20
+    same-length-21
+    same-length-22
+    same-length-23
+    returns-11
+    same-length-24
+    returns-12)

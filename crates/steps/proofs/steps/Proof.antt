@@ -1,5 +1,4 @@
 -- `steps::steps` meets its contract. Assumes nothing.
-use mathlib.Core.List.{[]}
 use Rattle.rules.specs.Tables.{lent, bare}
 use Rattle.rules.proofs.Rungs.{ends-as}
 use Rattle.order.specs.Ending.{reason}
@@ -11,7 +10,7 @@ use Rattle.steps.proofs.steps.Tie as tie
 
 judge-requires : tie.Need-judge-requires
 judge-requires c κs =
-    let began = c .before .before .before .before .before .before .before .before .before .before in
+    let began = c .before .before .before .before .before .before .before .before .before .before .before .before in
     let s = began .pre in
     (s .suited .ready-to-move .head-length, (s .host-most, s .fitting))
 
@@ -22,9 +21,10 @@ report-attention-requires : tie.Need-report-attention-requires
 report-attention-requires c κs =
     let told = c .before in
     let judged = told .before .before in
-    let began = judged .before .before .before .before .before .before .before .before .before .before .before in
+    let taken = judged .before .before in
+    let began = taken .before .before .before .before .before .before .before .before .before .before .before in
     let s = began .pre in
-    (s .suited .ready-to-move .head-length, (s .host-most, is-pending _ (lent _ [] bare) _ _ _ _ (judged .judge .ensures) (told .enum-told .given .1)))
+    (s .suited .ready-to-move .head-length, (s .host-most, is-pending _ (lent _ _ bare) _ _ _ _ (judged .judge .ensures) (told .enum-told .given .1)))
 
 enum-told-2 : tie.Need-enum-told-2
 enum-told-2 c = search needs
@@ -32,7 +32,8 @@ enum-told-2 c = search needs
 conflict-requires : tie.Need-conflict-requires
 conflict-requires c κs =
     let judged = c .before .before .before in
-    let began = judged .before .before .before .before .before .before .before .before .before .before .before in
+    let taken = judged .before .before in
+    let began = taken .before .before .before .before .before .before .before .before .before .before .before in
     let s = began .pre in
     (s .suited .ready-to-move .head-length, s .host-most)
 
@@ -42,7 +43,8 @@ enum-known-at c = search needs
 refuse-requires : tie.Need-refuse-requires
 refuse-requires c κs =
     let judged = c .before .before .before .before in
-    let began = judged .before .before .before .before .before .before .before .before .before .before .before in
+    let taken = judged .before .before in
+    let began = taken .before .before .before .before .before .before .before .before .before .before .before in
     let s = began .pre in
     (s .suited .ready-to-move .head-length, s .host-most)
 
@@ -51,13 +53,17 @@ enum-told-3 c = search needs
 
 command-requires : tie.Need-command-requires
 command-requires c κs =
-    let told = c .before .before .before in
+    let told = c .before .before .before .before in
     let judged = told .before .before in
-    let began = judged .before .before .before .before .before .before .before .before .before .before .before in
-    (began .pre, is-open _ (lent _ [] bare) _ _ _ _ (judged .judge .ensures) (told .enum-told3 .given .1))
+    let taken = judged .before .before in
+    let began = taken .before .before .before .before .before .before .before .before .before .before .before in
+    (began .pre, is-open _ (lent _ _ bare) _ _ _ _ (judged .judge .ensures) (told .enum-told3 .given .1))
 
 same-length : tie.Need-same-length
 same-length c = search needs
+
+same-length-2 : tie.Need-same-length-2
+same-length-2 c = search needs
 
 returns : tie.Need-returns
 returns c =
@@ -66,8 +72,11 @@ returns c =
     let judged = told .before .before in
     ends-as _ _ (called .report-attention .ensures _ _ _ _) (pending-ends _ (lent _ _ _) _ _ _ _ _ (judged .judge .ensures) (told .enum-told .given .1))
 
-same-length-2 : tie.Need-same-length-2
-same-length-2 c = search needs
+same-length-3 : tie.Need-same-length-3
+same-length-3 c = search needs
+
+same-length-4 : tie.Need-same-length-4
+same-length-4 c = search needs
 
 returns-2 : tie.Need-returns-2
 returns-2 c =
@@ -76,8 +85,11 @@ returns-2 c =
     let judged = told .before .before in
     ends-as _ _ (called .conflict .ensures _ _ _) (held-ends _ (lent _ _ _) _ _ _ _ _ (judged .judge .ensures) (told .enum-told2 .given .1))
 
-same-length-3 : tie.Need-same-length-3
-same-length-3 c = search needs
+same-length-5 : tie.Need-same-length-5
+same-length-5 c = search needs
+
+same-length-6 : tie.Need-same-length-6
+same-length-6 c = search needs
 
 returns-3 : tie.Need-returns-3
 unfolding reason
@@ -87,19 +99,22 @@ returns-3 c =
     let judged = told .before .before in
     ends-as _ _ (called .refuse .ensures _ _ _) (faulty-ends _ (lent _ _ _) _ _ _ _ _ (judged .judge .ensures) _ (told .at .given .1))
 
-same-length-4 : tie.Need-same-length-4
-same-length-4 c = search needs
+same-length-7 : tie.Need-same-length-7
+same-length-7 c = search needs
 
-same-length-5 : tie.Need-same-length-5
-same-length-5 c = search needs
+same-length-8 : tie.Need-same-length-8
+same-length-8 c = search needs
 
-same-length-6 : tie.Need-same-length-6
-same-length-6 c = search needs
+same-length-9 : tie.Need-same-length-9
+same-length-9 c = search needs
+
+same-length-10 : tie.Need-same-length-10
+same-length-10 c = search needs
 
 returns-4 : tie.Need-returns-4
 returns-4 c =
-    let called = c .before .before .before .before .before .before in
-    let told = called .before .before .before .before in
+    let called = c .before .before .before .before .before .before .before .before in
+    let told = called .before .before .before .before .before in
     let judged = told .before .before in
     ends-as _ _ (called .command .ensures) (open-ends _ (lent _ _ _) _ _ _ _ _ (judged .judge .ensures) (told .enum-told3 .given .1))
 
@@ -117,12 +132,16 @@ steps-spec =
     enum-told-3
     command-requires
     same-length
-    returns
     same-length-2
-    returns-2
+    returns
     same-length-3
-    returns-3
     same-length-4
+    returns-2
     same-length-5
     same-length-6
+    returns-3
+    same-length-7
+    same-length-8
+    same-length-9
+    same-length-10
     returns-4)

@@ -86,7 +86,7 @@ impl Answered {
 }
 
 impl Library {
-    /// The small library, with labels for three volumes of generation 1, which the drive takes.
+    /// The small library, with labels for three volumes of generation 1, which the drive takes, and without a search.
     pub fn small() -> Library {
         let ranges = [
             [0x00, 0x01, 0, 1],
@@ -99,6 +99,7 @@ impl Library {
         Library(TableBytes {
             generations: vec![1, 1, 1],
             masks: vec![0x01],
+            search: vec![0; 41],
             ..TableBytes::labelled(
                 [&ranges.concat()[..], &[0; 2], &[0; 40], &[0, 2]].concat(),
                 elements.concat(),

@@ -1,4 +1,4 @@
-//! Document 01, and requests One, Two and Four to Seven of document 02, against the reference and the built library. Every expected value is written out by hand.
+//! Document 01, and requests One, Two and Four to Eight of document 02, against the reference and the built library. Every expected value is written out by hand.
 
 mod fixture;
 
@@ -13,6 +13,7 @@ mod moves;
 mod panel;
 mod replay;
 mod reservations;
+mod searches;
 mod sense;
 mod shelves;
 mod shipped_errors;

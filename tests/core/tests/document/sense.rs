@@ -96,7 +96,7 @@ fn step_1_comes_before_attention_and_reservation() {
 
 #[test]
 fn unknown_first_bytes_of_every_group_are_told_as_such() {
-    for (first, length) in [(0x37, 10), (0x5E, 10), (0x88, 16), (0xB5, 12)] {
+    for (first, length) in [(0x37, 10), (0x5E, 10), (0x88, 16), (0xB4, 12)] {
         let mut block = vec![0; length];
         block[0] = first;
         Library::small().expect_check(1, &block, &[], [5, 0x20, 0x00]);

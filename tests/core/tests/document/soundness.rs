@@ -70,6 +70,11 @@ fn all_lengths_are_exact() {
     expect_broken(Clause::GenerationsLength, |l| l.generations.clear());
     expect_broken(Clause::MasksLength, |l| l.masks.push(1));
     expect_broken(Clause::MasksLength, |l| l.masks.clear());
+    expect_broken(Clause::SearchLength, |l| {
+        l.search.pop();
+    });
+    expect_broken(Clause::SearchLength, |l| l.search.push(0));
+    expect_broken(Clause::SearchLength, |l| l.search.clear());
 }
 
 #[test]

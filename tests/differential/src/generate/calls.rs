@@ -3,20 +3,23 @@
 use reference::library::Kind;
 use reference::Entry;
 
-use super::{lists, sound};
+use super::{lists, searches, sound};
 use crate::call::Call;
 use crate::random::Random;
 use crate::scene::Scene;
 
 /// The first bytes of the commands, in the order of their entries.
-pub const COMMANDS: [u8; 9] = [0x00, 0x03, 0x16, 0x17, 0x1E, 0xA5, 0xA6, 0xB8, 0x1A];
+pub const COMMANDS: [u8; 11] = [
+    0x00, 0x03, 0x16, 0x17, 0x1E, 0xA5, 0xA6, 0xB8, 0x1A, 0xB6, 0xB5,
+];
 
 /// The pages of MODE SENSE.
 pub const MODE_PAGES: [u8; 4] = [0x1D, 0x1E, 0x1F, 0x3F];
 
 /// The commands as often as [`plausible`] takes them.
-const OFTEN_MOVES: [u8; 14] = [
-    0x00, 0x03, 0x16, 0x17, 0x17, 0x1E, 0xA5, 0xA5, 0xA5, 0xA5, 0xA6, 0xA6, 0xB8, 0x1A,
+const OFTEN_MOVES: [u8; 17] = [
+    0x00, 0x03, 0x16, 0x17, 0x17, 0x1E, 0xA5, 0xA5, 0xA5, 0xA5, 0xA6, 0xA6, 0xB8, 0x1A, 0xB6, 0xB5,
+    0xB5,
 ];
 
 /// The entry named after the command of this first byte.
@@ -119,6 +122,8 @@ pub fn block(random: &mut Random, scene: &Scene, first: u8) -> (Vec<u8>, Vec<u8>
         0xA6 => (exchange_medium(random, scene, ignored), none),
         0xB8 => (read_element_status(random, scene, ignored), none),
         0x1A => (mode_sense(random, ignored), none),
+        0xB6 => searches::send(random, scene, ignored),
+        0xB5 => (request_address(random, scene, ignored), none),
         _ => (vec![first, ignored, 0, 0, 0, 0], none),
     }
 }
@@ -154,7 +159,8 @@ fn place(random: &mut Random, scene: &Scene, full: bool) -> u16 {
     }
 }
 
-fn any_address(random: &mut Random, scene: &Scene) -> u16 {
+/// An element's address, one beside it or any.
+pub fn any_address(random: &mut Random, scene: &Scene) -> u16 {
     let near = random.pick_with_ends(&scene.places).address;
     match random.below(8) {
         0 => 0,
@@ -192,7 +198,8 @@ fn exchange_medium(random: &mut Random, scene: &Scene, ignored: u8) -> Vec<u8> {
     block
 }
 
-fn read_element_status(random: &mut Random, scene: &Scene, ignored: u8) -> Vec<u8> {
+/// Byte 1, start and number of a listing.
+fn choice(random: &mut Random, scene: &Scene) -> (u8, u16, u16) {
     let tags = random.pick(&[0x00, 0x10]);
     let kind = random.pick(&[0, 0, 0, 1, 2, 3, 4]);
     let start = match random.percent(50) {
@@ -204,13 +211,37 @@ fn read_element_status(random: &mut Random, scene: &Scene, ignored: u8) -> Vec<u
         1 => random.word() as u16,
         _ => 0xFFFF,
     };
+    (tags | kind, start, most)
+}
+
+fn read_element_status(random: &mut Random, scene: &Scene, ignored: u8) -> Vec<u8> {
+    let (byte_1, start, most) = choice(random, scene);
     let allocation = match random.below(4) {
         0 => random.below(64),
         1 => random.below(1_000),
         2 => 0xFF_FFFF,
         _ => 600,
     };
-    read_block(tags | kind | ignored, start, most, allocation)
+    read_block(byte_1 | ignored, start, most, allocation)
+}
+
+/// Often room for a few descriptors, so that a search goes on.
+fn request_address(random: &mut Random, scene: &Scene, ignored: u8) -> Vec<u8> {
+    let (byte_1, start, most) = choice(random, scene);
+    let allocation = match random.below(4) {
+        0 => random.below(80),
+        1 => random.below(400),
+        2 => 0xFFFF,
+        _ => 600,
+    };
+    request_block(byte_1 | ignored, start, most, allocation)
+}
+
+/// The block of REQUEST VOLUME ELEMENT ADDRESS: READ ELEMENT STATUS with an allocation of two bytes.
+pub fn request_block(byte_1: u8, start: u16, most: u16, allocation: usize) -> Vec<u8> {
+    let mut block = read_block(byte_1, start, most, allocation << 8);
+    block[0] = 0xB5;
+    block
 }
 
 pub fn read_block(byte_1: u8, start: u16, most: u16, allocation: usize) -> Vec<u8> {

@@ -3,9 +3,9 @@
 use reference::library::Kind;
 use reference::Clause;
 
-use super::sound;
+use super::{searches, sound};
 use crate::random::Random;
-use crate::scene::{bit, Scene, HEAD_LENGTH, MOST_GENERATION};
+use crate::scene::{bit, Scene, HEAD_LENGTH, MOST_GENERATION, SEARCH_LENGTH};
 
 /// Sound tables with this clause broken, and no clause that is judged before it.
 pub fn broken_scene(random: &mut Random, clause: Clause) -> Scene {
@@ -75,6 +75,10 @@ fn break_clause(random: &mut Random, scene: &mut Scene, clause: Clause) -> Optio
         }
         Clause::GenerationsLength => other_length(random, &mut scene.tables.generations),
         Clause::GenerationNumber => wrong_generation(random, scene)?,
+        Clause::SearchLength => wrong_length(random, &mut scene.tables.search, 1),
+        Clause::SearchAction | Clause::SearchType | Clause::SearchNext => {
+            wrong_search(random, scene, clause);
+        }
         Clause::EmptyRangeFirst => empty_range_first(random, scene)?,
         Clause::RangeWithin => {
             range_outside(random, scene);
@@ -149,6 +153,38 @@ fn wrong_generation(random: &mut Random, scene: &mut Scene) -> Option<()> {
     let wrong = random.pick(&[0, 0, MOST_GENERATION + 1, 16, 0x80, 255, any]);
     scene.tables.generations[volume] = wrong;
     Some(())
+}
+
+/// A search, as one could be but for this field. Where the length is wrong already there is nothing to do.
+fn wrong_search(random: &mut Random, scene: &mut Scene, clause: Clause) {
+    if scene.tables.search.len() != SEARCH_LENGTH {
+        return;
+    }
+    let mut search = searches::search(random, scene);
+    match clause {
+        Clause::SearchAction => {
+            let any = random.byte_between(6, 255);
+            search[33] = random.pick(&[0, 0, 2, 3, 4, 6, 0x11, 0x15, 0x81, any]);
+            // With action 0 anything else that is set is wrong, and with all else zero nothing would be.
+            if search[33] == 0 && random.percent(50) {
+                search.fill(0);
+                search[random.below(33)] = random.byte_between(1, 255);
+            }
+            if search.iter().all(|&byte| byte == 0) {
+                search[random.between(34, 40)] = 1;
+            }
+        }
+        Clause::SearchType => {
+            let any = random.byte_between(5, 255);
+            search[32] = random.pick(&[5, 5, 6, 16, 0x80, any]);
+        }
+        _ => {
+            let any = random.between(0x1_0001, 0xFF_FFFF);
+            let next = random.pick(&[0x1_0001, 0x1_0001, 0x2_0000, 0xFF_FFFF, any]) as u32;
+            search[38..].copy_from_slice(&next.to_be_bytes()[1..]);
+        }
+    }
+    scene.tables.search = search;
 }
 
 /// A drive does not take what stands in it, by its mask or by the volume's generation. Where all drives are empty one is filled.

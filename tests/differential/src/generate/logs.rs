@@ -30,6 +30,8 @@ pub struct Recorded {
     pub call: Call,
     pub reply: Reply,
     pub sense: [u8; 3],
+    /// Whether the search is another behind it.
+    pub searches: bool,
 }
 
 fn hex(bytes: &[u8]) -> Vec<u8> {
@@ -122,8 +124,8 @@ fn recordable(random: &mut Random, call: Call) -> Call {
 /// The call recorded under this number, with the scene carried on to what it leaves.
 pub fn record(scene: &mut Scene, number: u32, call: Call) -> Recorded {
     let made = make(&Reference::default(), &scene.tables, &call, [0; 16]);
-    scene.tables.head = made.head().to_vec();
-    scene.tables.elements = made.elements().to_vec();
+    let searches = made.search() != scene.tables.search;
+    made.carry_on(&mut scene.tables);
     let sense = match call {
         Call::Command {
             host: host @ 1..=8, ..
@@ -137,6 +139,7 @@ pub fn record(scene: &mut Scene, number: u32, call: Call) -> Recorded {
         line: Line::of(number, &call),
         reply: made.reply(),
         sense,
+        searches,
         call,
     }
 }

@@ -4,4 +4,5 @@ pub mod calls;
 pub mod faults;
 pub mod lists;
 pub mod logs;
+pub mod searches;
 pub mod sound;

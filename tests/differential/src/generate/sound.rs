@@ -3,8 +3,9 @@
 use reference::library::Kind;
 use reference::TableBytes;
 
+use super::searches;
 use crate::random::Random;
-use crate::scene::{bit, Place, Scene, HEAD_LENGTH, MOST_GENERATION};
+use crate::scene::{bit, Place, Scene, HEAD_LENGTH, MOST_GENERATION, SEARCH_LENGTH};
 
 const LAST_ADDRESS: usize = 65_535;
 const MOST_TRANSPORTS: usize = 127;
@@ -72,6 +73,10 @@ fn scene_of(random: &mut Random, counts: Counts, likelihood: Likelihood) -> Scen
     load(random, &mut scene);
     scene.recount();
     choose_cartridges(random, &mut scene, counts[3]);
+    scene.tables.search = match random.percent(60) {
+        true => searches::search(random, &scene),
+        false => vec![0; SEARCH_LENGTH],
+    };
     reserve(random, &mut scene, likelihood);
     tell(random, &mut scene, likelihood);
     scene
@@ -179,7 +184,7 @@ fn load(random: &mut Random, scene: &mut Scene) {
         2 => random.between(0, MOST_VOLUMES),
         _ => random.between(1, elements.min(MOST_VOLUMES)),
     };
-    scene.tables.tags = random.bytes(36 * volumes);
+    scene.tables.tags = searches::labels(random, volumes);
     let mut unused: Vec<u16> = (1..=volumes as u16).collect();
     random.shuffle(&mut unused);
     let full = random.pick(&[0, 20, 50, 50, 80, 100]);

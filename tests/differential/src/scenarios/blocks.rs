@@ -8,7 +8,7 @@ use crate::random::Random;
 pub(super) fn early_steps(harness: &mut Harness, random: &mut Random, _: usize) {
     for first in calls::COMMANDS
         .into_iter()
-        .chain([0x12, 0x5E, 0x7F, 0x88, 0xB5, 0xC0])
+        .chain([0x12, 0x5E, 0x7F, 0x88, 0xB4, 0xC0])
     {
         for case in 0..8 {
             let mut scene = sound::quiet_scene(random);
@@ -42,7 +42,8 @@ pub(super) fn bits_of_blocks_flipped(harness: &mut Harness, random: &mut Random,
             let mut flipped = block.clone();
             flipped[bit / 8] ^= 1 << (bit % 8);
             let list = match flipped[0] {
-                0x16 => list_as_long_as_said(&flipped, &parameters),
+                0x16 => list_as_long_as_said(&flipped[3..5], &parameters),
+                0xB6 => list_as_long_as_said(&flipped[8..10], &parameters),
                 _ => Vec::new(),
             };
             let call = calls::command(random, host, flipped, list);
@@ -51,9 +52,9 @@ pub(super) fn bits_of_blocks_flipped(harness: &mut Harness, random: &mut Random,
     }
 }
 
-fn list_as_long_as_said(block: &[u8], list: &[u8]) -> Vec<u8> {
+fn list_as_long_as_said(said: &[u8], list: &[u8]) -> Vec<u8> {
     let mut list = list.to_vec();
-    list.resize(u16::from_be_bytes([block[3], block[4]]).into(), 0);
+    list.resize(u16::from_be_bytes([said[0], said[1]]).into(), 0);
     list
 }
 
@@ -75,14 +76,18 @@ pub(super) fn block_lengths(harness: &mut Harness, random: &mut Random, round: u
 
 /// Right and wrong numbers of parameter bytes, for known and unknown first bytes.
 pub(super) fn parameter_lengths(harness: &mut Harness, random: &mut Random, _: usize) {
-    for first in calls::COMMANDS.into_iter().chain([0x12, 0x5E, 0xB5, 0xC1]) {
-        for length in [0, 1, 5, 6, 7, 12, 255, 262] {
+    for first in calls::COMMANDS.into_iter().chain([0x12, 0x5E, 0xB4, 0xC1]) {
+        for length in [0, 1, 5, 6, 7, 12, 39, 40, 41, 255, 262, 296] {
             let mut scene = sound::small_scene(random);
             let (mut block, _) = calls::block(random, &scene, first);
             block.resize(calls::block_length(first), 0);
-            if first == 0x16 {
-                let said = random.pick(&[length, length, length + 1, length ^ 0x0100, 6]);
-                block[3..5].copy_from_slice(&(said as u16).to_be_bytes());
+            let (at, usual) = match first {
+                0x16 => (3, 6),
+                _ => (8, 40),
+            };
+            if [0x16, 0xB6].contains(&first) {
+                let said = random.pick(&[length, length, length + 1, length ^ 0x0100, usual]);
+                block[at..at + 2].copy_from_slice(&(said as u16).to_be_bytes());
             }
             let parameters = match random.percent(50) {
                 true => vec![0; length],

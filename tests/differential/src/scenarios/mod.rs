@@ -10,6 +10,7 @@ mod modes;
 mod panel;
 mod replays;
 mod reserving;
+mod searches;
 mod shelves;
 mod unsound;
 mod wide;
@@ -28,7 +29,7 @@ macro_rules! named {
     ($($family:ident::$name:ident),* $(,)?) => { [$((stringify!($name), $family::$name as Scenario)),*] };
 }
 
-const SCENARIOS: [(&str, Scenario); 49] = named![
+const SCENARIOS: [(&str, Scenario); 62] = named![
     libraries::small_library,
     libraries::plausible_calls,
     libraries::history,
@@ -47,6 +48,19 @@ const SCENARIOS: [(&str, Scenario); 49] = named![
     arms::each_holder,
     arms::whatever_is_wrong_besides,
     arms::replayed,
+    searches::bit_by_bit,
+    searches::cuts,
+    searches::edges_of_descriptors,
+    searches::templates,
+    searches::wild_cards,
+    searches::one_byte_differs,
+    searches::holders,
+    searches::fields,
+    searches::requests,
+    searches::last_address,
+    searches::between,
+    searches::replayed,
+    searches::any_search,
     blocks::early_steps,
     unsound::each_clause_broken,
     unsound::pairs_of_clauses_broken,

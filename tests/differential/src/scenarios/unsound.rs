@@ -35,11 +35,12 @@ pub(super) fn one_bit_of_the_tables_flipped(harness: &mut Harness, random: &mut 
     for _ in 0..60 {
         let mut scene = sound::scene(random);
         let call = calls::plausible(random, &scene);
-        let table = match random.below(8) {
+        let table = match random.below(9) {
             0..=2 => &mut scene.tables.head,
             3..=5 => &mut scene.tables.elements,
             6 => &mut scene.tables.generations,
-            _ => &mut scene.tables.masks,
+            7 => &mut scene.tables.masks,
+            _ => &mut scene.tables.search,
         };
         let at = random.below(table.len());
         if let Some(byte) = table.get_mut(at) {

@@ -26,7 +26,7 @@ pub(super) fn tables(harness: &mut Harness, random: &mut Random, _: usize) {
 pub(super) fn requests(harness: &mut Harness, random: &mut Random, _: usize) {
     for first in calls::COMMANDS
         .into_iter()
-        .chain([0x12, 0x5E, 0x7F, 0x88, 0xB5, 0xC0, 0xE1])
+        .chain([0x12, 0x5E, 0x7F, 0x88, 0xB4, 0xC0, 0xE1])
     {
         for slice in 0..3 {
             for more in BEYOND {

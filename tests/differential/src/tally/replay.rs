@@ -92,6 +92,9 @@ pub fn line_outcomes(recorded: &Recorded) -> Vec<Outcome> {
                 if status == 0x02 && recorded.sense == [5, 0x30, 0x12] {
                     reached.push(Outcome::LineNotTaken(first));
                 }
+                if recorded.searches {
+                    reached.push(Outcome::LineSearches(first));
+                }
                 if count > 0 {
                     reached.push(Outcome::LineAnswered(first));
                 }
@@ -151,7 +154,7 @@ fn required_lines() -> Vec<Outcome> {
         let line = |status: &u8| Outcome::LineStatus(First::Known(first), *status);
         required.extend(statuses.iter().map(line));
     }
-    let reads = [0x03, 0xB8, 0x1A].map(First::Known);
+    let reads = [0x03, 0xB8, 0x1A, 0xB5].map(First::Known);
     required.extend(reads.map(Outcome::LineAnswered));
     for event in [Event::Import, Event::Export, Event::Reset] {
         required.push(Outcome::LineEvent(event, 0));

@@ -22,6 +22,9 @@ same-length c = search needs
 same-length-2 : tie.Need-same-length-2
 same-length-2 c = search needs
 
+same-length-3 : tie.Need-same-length-3
+same-length-3 c = search needs
+
 returns : tie.Need-returns
 unfolding importing atPort
 returns c =
@@ -38,11 +41,14 @@ import-requires c κs =
     importable _ _ _ (sym (checked .check .ensures .0) ∙ not-false _ (whole .if1 .left)) _
     (checked .check .ensures .1 (not-false _ (whole .if1 .left)))
 
-same-length-3 : tie.Need-same-length-3
-same-length-3 c = search needs
-
 same-length-4 : tie.Need-same-length-4
 same-length-4 c = search needs
+
+same-length-5 : tie.Need-same-length-5
+same-length-5 c = search needs
+
+same-length-6 : tie.Need-same-length-6
+same-length-6 c = search needs
 
 returns-2 : tie.Need-returns-2
 returns-2 c =
@@ -60,8 +66,10 @@ import-spec =
     numbered-requires
     same-length
     same-length-2
+    same-length-3
     returns
     import-requires
-    same-length-3
     same-length-4
+    same-length-5
+    same-length-6
     returns-2)

@@ -1,10 +1,12 @@
 -- `serving::event::reset` meets its contract. Assumes nothing.
 use mathlib.Core.Path.{refl, sym, _∙_}
 use borrow.Author.Tests.{not-true, not-false}
-use Rattle.rules.specs.Tables.{lent}
+use mathlib.Core.List.{[]}
+use Rattle.rules.specs.Tables.{lent, others}
 use Rattle.rules.specs.Events.{resetting}
 use Rattle.rules.proofs.Ladder.{no}
 use Rattle.steps.proofs.Supply.{head-room}
+use Rattle.serving.proofs.Supply.{search-room}
 use Rattle.serving.proofs.Ends.{number-ends, reset-is}
 use borrow.Author.Needs.{needs}
 use Rattle.serving.proofs.event.reset.Statement.{statement}
@@ -22,6 +24,9 @@ same-length c = search needs
 same-length-2 : tie.Need-same-length-2
 same-length-2 c = search needs
 
+same-length-3 : tie.Need-same-length-3
+same-length-3 c = search needs
+
 returns : tie.Need-returns
 unfolding resetting
 returns c =
@@ -33,22 +38,26 @@ returns c =
 
 reset-requires : tie.Need-reset-requires
 reset-requires c κs =
-    let whole = c .before .before in
+    let whole = c .before .before .before in
     let checked = whole .before .before in
-    head-room _ _ _ (sym (checked .check .ensures .0) ∙ not-false _ (whole .if1 .left))
-
-same-length-3 : tie.Need-same-length-3
-same-length-3 c = search needs
+    let s = sym (checked .check .ensures .0) ∙ not-false _ (whole .if1 .left) in
+    (head-room _ _ _ s, search-room _ _ _ s)
 
 same-length-4 : tie.Need-same-length-4
 same-length-4 c = search needs
 
+same-length-5 : tie.Need-same-length-5
+same-length-5 c = search needs
+
+same-length-6 : tie.Need-same-length-6
+same-length-6 c = search needs
+
 returns-2 : tie.Need-returns-2
 returns-2 c =
-    let called = c .before .before .before .before in
-    let whole = called .before .before .before in
+    let called = c .before .before .before .before .before .before in
+    let whole = called .before .before .before .before in
     let checked = whole .before .before in
-    called .reset .ensures _ (sym (checked .check .ensures .0) ∙ not-false _ (whole .if1 .left))
+    called .reset .ensures (others _ _ _ _ []) (sym (checked .check .ensures .0) ∙ not-false _ (whole .if1 .left))
     ∙ reset-is _
 
 pub reset-spec : {M : Type 1} → statement M
@@ -59,8 +68,10 @@ reset-spec =
     numbered-requires
     same-length
     same-length-2
+    same-length-3
     returns
     reset-requires
-    same-length-3
     same-length-4
+    same-length-5
+    same-length-6
     returns-2)

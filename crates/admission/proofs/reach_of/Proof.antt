@@ -1,9 +1,9 @@
--- `admission::meets_unit` meets its contract. Assumes nothing.
+-- `admission::reach_of` meets its contract. Assumes nothing.
 use Rattle.operation.specs.Meaning.{meaning}
-use Rattle.admission.specs.Admitting.{meetsUnit}
+use Rattle.admission.specs.Admitting.{reachOf}
 use borrow.Author.Needs.{needs}
-use Rattle.admission.proofs.meets_unit.Statement.{statement}
-use Rattle.admission.proofs.meets_unit.Tie as tie
+use Rattle.admission.proofs.reach_of.Statement.{statement}
+use Rattle.admission.proofs.reach_of.Tie as tie
 
 enum-told : tie.Need-enum-told
 enum-told c = search needs
@@ -35,48 +35,62 @@ enum-told-9 c = search needs
 enum-told-10 : tie.Need-enum-told-10
 enum-told-10 c = search needs
 
+enum-told-11 : tie.Need-enum-told-11
+enum-told-11 c = search needs
+
+enum-told-12 : tie.Need-enum-told-12
+enum-told-12 c = search needs
+
 returns : tie.Need-returns
-unfolding meetsUnit meaning
+unfolding reachOf meaning
 returns c = rw (c .enum-told .given .1)
 
 returns-2 : tie.Need-returns-2
-unfolding meetsUnit meaning
+unfolding reachOf meaning
 returns-2 c = rw (c .enum-told2 .given .1)
 
 returns-3 : tie.Need-returns-3
-unfolding meetsUnit meaning
+unfolding reachOf meaning
 returns-3 c = rw (c .enum-told3 .given .1)
 
 returns-4 : tie.Need-returns-4
-unfolding meetsUnit meaning
+unfolding reachOf meaning
 returns-4 c = rw (c .enum-told4 .given .1)
 
 returns-5 : tie.Need-returns-5
-unfolding meetsUnit meaning
+unfolding reachOf meaning
 returns-5 c = rw (c .enum-told5 .given .1)
 
 returns-6 : tie.Need-returns-6
-unfolding meetsUnit meaning
+unfolding reachOf meaning
 returns-6 c = rw (c .enum-told6 .given .1)
 
 returns-7 : tie.Need-returns-7
-unfolding meetsUnit meaning
+unfolding reachOf meaning
 returns-7 c = rw (c .enum-told7 .given .1)
 
 returns-8 : tie.Need-returns-8
-unfolding meetsUnit meaning
+unfolding reachOf meaning
 returns-8 c = rw (c .enum-told8 .given .1)
 
 returns-9 : tie.Need-returns-9
-unfolding meetsUnit meaning
+unfolding reachOf meaning
 returns-9 c = rw (c .enum-told9 .given .1)
 
 returns-10 : tie.Need-returns-10
-unfolding meetsUnit meaning
+unfolding reachOf meaning
 returns-10 c = rw (c .enum-told10 .given .1)
 
-pub meets-unit-spec : {M : Type 1} → statement M
-meets-unit-spec =
+returns-11 : tie.Need-returns-11
+unfolding reachOf meaning
+returns-11 c = rw (c .enum-told11 .given .1)
+
+returns-12 : tie.Need-returns-12
+unfolding reachOf meaning
+returns-12 c = rw (c .enum-told12 .given .1)
+
+pub reach-of-spec : {M : Type 1} → statement M
+reach-of-spec =
     tie.close
     (tie.spec
     enum-told
@@ -89,6 +103,8 @@ meets-unit-spec =
     enum-told-8
     enum-told-9
     enum-told-10
+    enum-told-11
+    enum-told-12
     returns
     returns-2
     returns-3
@@ -98,4 +114,6 @@ meets-unit-spec =
     returns-7
     returns-8
     returns-9
-    returns-10)
+    returns-10
+    returns-11
+    returns-12)

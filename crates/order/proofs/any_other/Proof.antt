@@ -1,4 +1,4 @@
--- `holds::any_other` meets its contract. Assumes nothing.
+-- `order::any_other` meets its contract. Assumes nothing.
 use Prim.Native.Nat.{_≤_, _-_}
 use native.Mathlib.Omega.{arith}
 use mathlib.Core.Path.{sym, ap, _∙_}
@@ -6,9 +6,9 @@ use borrow.Author.Needs.{needs}
 use Rattle.rules.proofs.Loops.{Failed, failed-none, failed-more, found-there, found-nowhere}
 use Rattle.rules.specs.Tables.{places, holder}
 use Rattle.rules.specs.Order.{other}
-use Rattle.holds.specs.Judged.{anyOther}
-use Rattle.holds.proofs.any_other.Statement.{statement}
-use Rattle.holds.proofs.any_other.Tie as tie
+use Rattle.order.specs.Holders.{anyOther}
+use Rattle.order.proofs.any_other.Statement.{statement}
+use Rattle.order.proofs.any_other.Tie as tie
 
 abbrev Inv-loop : tie.InvT-loop
 Inv-loop elements host n p₀ p = (p ≤ n) × Failed (λ q. other host (holder elements q)) 0 p

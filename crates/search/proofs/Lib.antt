@@ -1,0 +1,5 @@
+pub mod Templates
+pub mod Matching
+pub mod Places
+pub mod Marking
+pub mod Beginning
