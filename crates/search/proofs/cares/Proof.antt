@@ -52,7 +52,7 @@ unfolding byte
 loop-again c =
     let other = c .before .before in
     let test = other .before .before in
-    care-on _ _ _ (test .before .loop .inv) (test .loop-test .taken) (other .if1 .left) _ (c .asked .ensures)
+    care-on _ _ _ (test .before .loop .inv) (omega (arith, test .loop-test .taken)) (other .if1 .left) _ (c .asked .ensures)
 
 same-length-2 : tie.Need-same-length-2 Inv-loop μ-loop
 same-length-2 c =
