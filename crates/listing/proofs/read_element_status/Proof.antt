@@ -12,7 +12,8 @@ use Rattle.listing.proofs.read_element_status.Tie as tie
 
 -- what the listing hands back, in the block's own terms
 answered : (c : tie.After-list)
-    → (let a = c .before .before .before .before .before .before .before .before .before .before .before .before .args in
+    → (let taken = c .before .before in
+    let a = taken .before .before .before .before .before .before .before .before .before .before .args in
     Answers (listed [] (asked (now (a .block)) 0) (stock (now (a .elements)) (now (a .tags)) (now (a .blank))) (meant (a .runs)) (word (now (a .block)) 4) (triple (now (a .block)) 7)) (now (a .answer)) (c .list .last .0) (c .list .result .reply))
 answered c =
     let read = c .before .before .before in
@@ -45,7 +46,8 @@ same-length c = search needs
 returns : tie.Need-returns
 returns c = λ rest lends.
     let listed = c .before .before .before .before in
-    let s = listed .before .before .before .before .before .before .before .before .before .before .before .before in
+    let taken = listed .before .before in
+    let s = taken .before .before .before .before .before .before .before .before .before .before in
     ends-refused _ _ _ _ _ _ _ (s .pre .runs-are) (rw (lends .tags-is, lends .blank-is) (answered listed)) (c .if1 .taken)
 
 wipe-requires : tie.Need-wipe-requires
@@ -61,7 +63,8 @@ returns-2 : tie.Need-returns-2
 returns-2 c = λ rest lends.
     let tested = c .before .before .before .before in
     let listed = tested .before .before .before .before in
-    let s = listed .before .before .before .before .before .before .before .before .before .before .before .before in
+    let taken = listed .before .before in
+    let s = taken .before .before .before .before .before .before .before .before .before .before in
     ends-good _ _ _ _ _ _ _ (s .pre .runs-are) (rw (lends .tags-is, lends .blank-is) (answered listed)) _ (tested .if1 .left) (c .before .before .wipe .ensures)
 
 pub read-element-status-spec : {M : Type 1} → statement M

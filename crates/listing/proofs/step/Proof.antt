@@ -45,7 +45,8 @@ page-bytes-requires-2 c κs = search needs
 
 add-t15 : tie.Need-add-t15
 add-t15 c =
-    let s = c .before .before .before .before .before .before .before .before .before .before .before .before in
+    let taken = c .before .before in
+    let s = taken .before .before .before .before .before .before .before .before .before .before in
     let w = s .pre .1 in
     let u = page-bytes-few (s .args .q .tagged) (s .args .p .n) (omega (arith, w .1 .sum)) in
     omega (arith, c .before .page-bytes2 .ensures, u, w .0 .total)

@@ -21,7 +21,8 @@ enum-told c = search needs
 good-requires : tie.Need-good-requires
 good-requires c κs =
     let chosen = c .before in
-    let began = chosen .before .before .before .before .before .before .before .before .before .before .before .before in
+    let taken = chosen .before .before in
+    let began = taken .before .before .before .before .before .before .before .before .before .before in
     let s = began .pre .0 in
     (s .suited .ready-to-move .head-length, s .host-most)
 
@@ -32,7 +33,8 @@ request-sense-requires : tie.Need-request-sense-requires
 unfolding meaning
 request-sense-requires c κs =
     let chosen = c .before .before in
-    let began = chosen .before .before .before .before .before .before .before .before .before .before .before .before in
+    let taken = chosen .before .before in
+    let began = taken .before .before .before .before .before .before .before .before .before .before in
     let s = began .pre .0 in
     (s .suited .ready-to-move .head-length, (s .host-most, sized _ _ _ (s .fitting) (chosen .enum-told2 .given .1)))
 
@@ -43,7 +45,8 @@ reserve-requires : tie.Need-reserve-requires
 unfolding meaning
 reserve-requires c κs =
     let chosen = c .before .before in
-    let began = chosen .before .before .before .before .before .before .before .before .before .before .before .before in
+    let taken = chosen .before .before in
+    let began = taken .before .before .before .before .before .before .before .before .before .before in
     let s = began .pre .0 in
     record {
       head-long = s .suited .ready-to-move .head-length;
@@ -61,7 +64,8 @@ release-requires : tie.Need-release-requires
 unfolding meaning
 release-requires c κs =
     let chosen = c .before .before in
-    let began = chosen .before .before .before .before .before .before .before .before .before .before .before .before in
+    let taken = chosen .before .before in
+    let began = taken .before .before .before .before .before .before .before .before .before .before in
     let s = began .pre .0 in
     (s .suited .ready-to-move .head-length, (s .host-most, sized _ _ _ (s .fitting) (chosen .enum-told4 .given .1)))
 
@@ -72,7 +76,8 @@ prevent-allow-requires : tie.Need-prevent-allow-requires
 unfolding meaning
 prevent-allow-requires c κs =
     let chosen = c .before in
-    let began = chosen .before .before .before .before .before .before .before .before .before .before .before .before in
+    let taken = chosen .before .before in
+    let began = taken .before .before .before .before .before .before .before .before .before .before in
     let s = began .pre .0 in
     (s .suited .ready-to-move .head-length, (s .host-some, (s .host-most, sized _ _ _ (s .fitting) (chosen .enum-told5 .given .1))))
 
@@ -83,7 +88,8 @@ move-medium-requires : tie.Need-move-medium-requires
 unfolding meaning
 move-medium-requires c κs =
     let chosen = c .before .before in
-    let began = chosen .before .before .before .before .before .before .before .before .before .before .before .before in
+    let taken = chosen .before .before in
+    let began = taken .before .before .before .before .before .before .before .before .before .before in
     let s = began .pre .0 in
     (s .suited .ready-to-move, (s .host-some, (s .host-most, sized _ _ _ (s .fitting) (chosen .enum-told6 .given .1))))
 
@@ -94,7 +100,8 @@ exchange-medium-requires : tie.Need-exchange-medium-requires
 unfolding meaning
 exchange-medium-requires c κs =
     let chosen = c .before .before in
-    let began = chosen .before .before .before .before .before .before .before .before .before .before .before .before in
+    let taken = chosen .before .before in
+    let began = taken .before .before .before .before .before .before .before .before .before .before in
     let s = began .pre .0 in
     (s .suited .ready-to-move, (s .host-some, (s .host-most, sized _ _ _ (s .fitting) (chosen .enum-told7 .given .1))))
 
@@ -105,7 +112,8 @@ read-element-status-requires : tie.Need-read-element-status-requires
 unfolding meaning
 read-element-status-requires c κs =
     let chosen = c .before .before .before in
-    let began = chosen .before .before .before .before .before .before .before .before .before .before .before .before in
+    let taken = chosen .before .before in
+    let began = taken .before .before .before .before .before .before .before .before .before .before in
     let s = began .pre .0 in
     s .suited .ready-to-list _ _ (s .host-most) (sized _ _ _ (s .fitting) (chosen .enum-told8 .given .1))
 
@@ -116,7 +124,8 @@ mode-sense-requires : tie.Need-mode-sense-requires
 unfolding meaning
 mode-sense-requires c κs =
     let chosen = c .before .before in
-    let began = chosen .before .before .before .before .before .before .before .before .before .before .before .before in
+    let taken = chosen .before .before in
+    let began = taken .before .before .before .before .before .before .before .before .before .before in
     let s = began .pre .0 in
     record {
       head-long = s .suited .ready-to-move .head-length;
@@ -132,7 +141,8 @@ send-volume-tag-requires : tie.Need-send-volume-tag-requires
 unfolding meaning
 send-volume-tag-requires c κs =
     let chosen = c .before .before in
-    let began = chosen .before .before .before .before .before .before .before .before .before .before .before .before in
+    let taken = chosen .before .before in
+    let began = taken .before .before .before .before .before .before .before .before .before .before in
     let s = began .pre .0 in
     ((s .suited .ready-to-move .head-length, s .host-most), (s .suited .search-whole, sized _ _ _ (s .fitting) (chosen .enum-told10 .given .1)))
 
@@ -143,7 +153,8 @@ request-volume-element-address-requires : tie.Need-request-volume-element-addres
 unfolding meaning
 request-volume-element-address-requires c κs =
     let chosen = c .before .before .before .before in
-    let began = chosen .before .before .before .before .before .before .before .before .before .before .before .before in
+    let taken = chosen .before .before in
+    let began = taken .before .before .before .before .before .before .before .before .before .before in
     let s = began .pre .0 in
     findable _ _ _ _ (s .suited) _ _ (s .host-most) (sized _ _ _ (s .fitting) (chosen .enum-told11 .given .1))
 
@@ -153,7 +164,8 @@ enum-told-12 c = search needs
 refuse-requires : tie.Need-refuse-requires
 refuse-requires c κs =
     let chosen = c .before in
-    let began = chosen .before .before .before .before .before .before .before .before .before .before .before .before in
+    let taken = chosen .before .before in
+    let began = taken .before .before .before .before .before .before .before .before .before .before in
     let s = began .pre .0 in
     (s .suited .ready-to-move .head-length, s .host-most)
 

@@ -10,7 +10,8 @@ use Rattle.steps.proofs.steps.Tie as tie
 
 judge-requires : tie.Need-judge-requires
 judge-requires c κs =
-    let began = c .before .before .before .before .before .before .before .before .before .before .before .before in
+    let taken = c .before .before in
+    let began = taken .before .before .before .before .before .before .before .before .before .before in
     let s = began .pre in
     (s .suited .ready-to-move .head-length, (s .host-most, s .fitting))
 
