@@ -1,4 +1,7 @@
 // Runs the case files that it is named, and prints a line for each case.
+mod files;
+mod lines;
+
 ghost use mathlib.Core.Path.{_≡_};
 ghost use lib.ListN.{length};
 
@@ -13,5 +16,5 @@ fn main() {
     let mut file = file_room();
     let mut room = [0u8; case_rooms::parts::ROOM];
     let mut bytes = [0u8; case_rooms::parts::BYTES];
-    case_files::run(&mut file, &mut room, &mut bytes);
+    files::run(&mut file, &mut room, &mut bytes);
 }

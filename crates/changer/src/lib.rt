@@ -1,14 +1,10 @@
 // The entries that a C front end calls, each one call of `serving`, and one of `replay`. An entry asks nothing of the values that it is lent:
-// any bytes, any lengths, any numbers. What a caller owes beside (valid slices that do not overlap, one call at a time) stands in include/smc.h.
+// any bytes, any lengths, any numbers. Its statement, of one of five kinds, stands in crates/entries. What a caller owes beside (valid slices that do not overlap, one call at a time) stands in include/smc.h.
 use order::Reply;
 use replay::Replayed;
-ghost use mathlib.Core.Path.{_≡_};
 ghost use mathlib.Core.List.{[]};
 ghost use Rattle.rules.specs.Tables.{lent, others};
-ghost use Rattle.rules.specs.Command.{command, import, export, reset};
-ghost use Rattle.rules.specs.Replay.{replay};
-ghost use Rattle.order.specs.Ending.{ended};
-ghost use Rattle.replay.specs.Ended.{ended as endedReplay};
+ghost use Rattle.entries.specs.OnlyOne.{CommandEnds, ImportEnds, ExportEnds, ResetEnds, ReplayEnds};
 
 #[no_mangle]
 pub extern "C" fn smc_command<'a>(
@@ -24,7 +20,7 @@ pub extern "C" fn smc_command<'a>(
     parameters: &[u8],
     answer: &mut [u8],
 ) -> Reply
-    ensures { λ r. ⌜ ended r (lent (now (head .exit)) (now (elements .exit)) (others (now (tags .entry)) (now (blank .entry)) (now (generations .entry)) (now (masks .entry)) (now (search .exit)))) (now (answer .exit)) ≡ command (lent (now (head .entry)) (now (elements .entry)) (others (now (tags .entry)) (now (blank .entry)) (now (generations .entry)) (now (masks .entry)) (now (search .entry)))) host (now (block .entry)) (now (parameters .entry)) (now (answer .entry)) ⌝ }
+    ensures { λ r. ⌜ CommandEnds (lent (now (head .entry)) (now (elements .entry)) (others (now (tags .entry)) (now (blank .entry)) (now (generations .entry)) (now (masks .entry)) (now (search .entry)))) host (now (block .entry)) (now (parameters .entry)) (now (answer .entry)) r (lent (now (head .exit)) (now (elements .exit)) (others (now (tags .entry)) (now (blank .entry)) (now (generations .entry)) (now (masks .entry)) (now (search .exit)))) (now (answer .exit)) ⌝ }
 {
     serving::command(
         head,
@@ -55,7 +51,7 @@ pub extern "C" fn smc_test_unit_ready<'a>(
     parameters: &[u8],
     answer: &mut [u8],
 ) -> Reply
-    ensures { λ r. ⌜ ended r (lent (now (head .exit)) (now (elements .exit)) (others (now (tags .entry)) (now (blank .entry)) (now (generations .entry)) (now (masks .entry)) (now (search .exit)))) (now (answer .exit)) ≡ command (lent (now (head .entry)) (now (elements .entry)) (others (now (tags .entry)) (now (blank .entry)) (now (generations .entry)) (now (masks .entry)) (now (search .entry)))) host (now (block .entry)) (now (parameters .entry)) (now (answer .entry)) ⌝ }
+    ensures { λ r. ⌜ CommandEnds (lent (now (head .entry)) (now (elements .entry)) (others (now (tags .entry)) (now (blank .entry)) (now (generations .entry)) (now (masks .entry)) (now (search .entry)))) host (now (block .entry)) (now (parameters .entry)) (now (answer .entry)) r (lent (now (head .exit)) (now (elements .exit)) (others (now (tags .entry)) (now (blank .entry)) (now (generations .entry)) (now (masks .entry)) (now (search .exit)))) (now (answer .exit)) ⌝ }
 {
     serving::command(
         head,
@@ -86,7 +82,7 @@ pub extern "C" fn smc_request_sense<'a>(
     parameters: &[u8],
     answer: &mut [u8],
 ) -> Reply
-    ensures { λ r. ⌜ ended r (lent (now (head .exit)) (now (elements .exit)) (others (now (tags .entry)) (now (blank .entry)) (now (generations .entry)) (now (masks .entry)) (now (search .exit)))) (now (answer .exit)) ≡ command (lent (now (head .entry)) (now (elements .entry)) (others (now (tags .entry)) (now (blank .entry)) (now (generations .entry)) (now (masks .entry)) (now (search .entry)))) host (now (block .entry)) (now (parameters .entry)) (now (answer .entry)) ⌝ }
+    ensures { λ r. ⌜ CommandEnds (lent (now (head .entry)) (now (elements .entry)) (others (now (tags .entry)) (now (blank .entry)) (now (generations .entry)) (now (masks .entry)) (now (search .entry)))) host (now (block .entry)) (now (parameters .entry)) (now (answer .entry)) r (lent (now (head .exit)) (now (elements .exit)) (others (now (tags .entry)) (now (blank .entry)) (now (generations .entry)) (now (masks .entry)) (now (search .exit)))) (now (answer .exit)) ⌝ }
 {
     serving::command(
         head,
@@ -117,7 +113,7 @@ pub extern "C" fn smc_reserve<'a>(
     parameters: &[u8],
     answer: &mut [u8],
 ) -> Reply
-    ensures { λ r. ⌜ ended r (lent (now (head .exit)) (now (elements .exit)) (others (now (tags .entry)) (now (blank .entry)) (now (generations .entry)) (now (masks .entry)) (now (search .exit)))) (now (answer .exit)) ≡ command (lent (now (head .entry)) (now (elements .entry)) (others (now (tags .entry)) (now (blank .entry)) (now (generations .entry)) (now (masks .entry)) (now (search .entry)))) host (now (block .entry)) (now (parameters .entry)) (now (answer .entry)) ⌝ }
+    ensures { λ r. ⌜ CommandEnds (lent (now (head .entry)) (now (elements .entry)) (others (now (tags .entry)) (now (blank .entry)) (now (generations .entry)) (now (masks .entry)) (now (search .entry)))) host (now (block .entry)) (now (parameters .entry)) (now (answer .entry)) r (lent (now (head .exit)) (now (elements .exit)) (others (now (tags .entry)) (now (blank .entry)) (now (generations .entry)) (now (masks .entry)) (now (search .exit)))) (now (answer .exit)) ⌝ }
 {
     serving::command(
         head,
@@ -148,7 +144,7 @@ pub extern "C" fn smc_release<'a>(
     parameters: &[u8],
     answer: &mut [u8],
 ) -> Reply
-    ensures { λ r. ⌜ ended r (lent (now (head .exit)) (now (elements .exit)) (others (now (tags .entry)) (now (blank .entry)) (now (generations .entry)) (now (masks .entry)) (now (search .exit)))) (now (answer .exit)) ≡ command (lent (now (head .entry)) (now (elements .entry)) (others (now (tags .entry)) (now (blank .entry)) (now (generations .entry)) (now (masks .entry)) (now (search .entry)))) host (now (block .entry)) (now (parameters .entry)) (now (answer .entry)) ⌝ }
+    ensures { λ r. ⌜ CommandEnds (lent (now (head .entry)) (now (elements .entry)) (others (now (tags .entry)) (now (blank .entry)) (now (generations .entry)) (now (masks .entry)) (now (search .entry)))) host (now (block .entry)) (now (parameters .entry)) (now (answer .entry)) r (lent (now (head .exit)) (now (elements .exit)) (others (now (tags .entry)) (now (blank .entry)) (now (generations .entry)) (now (masks .entry)) (now (search .exit)))) (now (answer .exit)) ⌝ }
 {
     serving::command(
         head,
@@ -179,7 +175,7 @@ pub extern "C" fn smc_prevent_allow<'a>(
     parameters: &[u8],
     answer: &mut [u8],
 ) -> Reply
-    ensures { λ r. ⌜ ended r (lent (now (head .exit)) (now (elements .exit)) (others (now (tags .entry)) (now (blank .entry)) (now (generations .entry)) (now (masks .entry)) (now (search .exit)))) (now (answer .exit)) ≡ command (lent (now (head .entry)) (now (elements .entry)) (others (now (tags .entry)) (now (blank .entry)) (now (generations .entry)) (now (masks .entry)) (now (search .entry)))) host (now (block .entry)) (now (parameters .entry)) (now (answer .entry)) ⌝ }
+    ensures { λ r. ⌜ CommandEnds (lent (now (head .entry)) (now (elements .entry)) (others (now (tags .entry)) (now (blank .entry)) (now (generations .entry)) (now (masks .entry)) (now (search .entry)))) host (now (block .entry)) (now (parameters .entry)) (now (answer .entry)) r (lent (now (head .exit)) (now (elements .exit)) (others (now (tags .entry)) (now (blank .entry)) (now (generations .entry)) (now (masks .entry)) (now (search .exit)))) (now (answer .exit)) ⌝ }
 {
     serving::command(
         head,
@@ -210,7 +206,7 @@ pub extern "C" fn smc_move_medium<'a>(
     parameters: &[u8],
     answer: &mut [u8],
 ) -> Reply
-    ensures { λ r. ⌜ ended r (lent (now (head .exit)) (now (elements .exit)) (others (now (tags .entry)) (now (blank .entry)) (now (generations .entry)) (now (masks .entry)) (now (search .exit)))) (now (answer .exit)) ≡ command (lent (now (head .entry)) (now (elements .entry)) (others (now (tags .entry)) (now (blank .entry)) (now (generations .entry)) (now (masks .entry)) (now (search .entry)))) host (now (block .entry)) (now (parameters .entry)) (now (answer .entry)) ⌝ }
+    ensures { λ r. ⌜ CommandEnds (lent (now (head .entry)) (now (elements .entry)) (others (now (tags .entry)) (now (blank .entry)) (now (generations .entry)) (now (masks .entry)) (now (search .entry)))) host (now (block .entry)) (now (parameters .entry)) (now (answer .entry)) r (lent (now (head .exit)) (now (elements .exit)) (others (now (tags .entry)) (now (blank .entry)) (now (generations .entry)) (now (masks .entry)) (now (search .exit)))) (now (answer .exit)) ⌝ }
 {
     serving::command(
         head,
@@ -241,7 +237,7 @@ pub extern "C" fn smc_exchange_medium<'a>(
     parameters: &[u8],
     answer: &mut [u8],
 ) -> Reply
-    ensures { λ r. ⌜ ended r (lent (now (head .exit)) (now (elements .exit)) (others (now (tags .entry)) (now (blank .entry)) (now (generations .entry)) (now (masks .entry)) (now (search .exit)))) (now (answer .exit)) ≡ command (lent (now (head .entry)) (now (elements .entry)) (others (now (tags .entry)) (now (blank .entry)) (now (generations .entry)) (now (masks .entry)) (now (search .entry)))) host (now (block .entry)) (now (parameters .entry)) (now (answer .entry)) ⌝ }
+    ensures { λ r. ⌜ CommandEnds (lent (now (head .entry)) (now (elements .entry)) (others (now (tags .entry)) (now (blank .entry)) (now (generations .entry)) (now (masks .entry)) (now (search .entry)))) host (now (block .entry)) (now (parameters .entry)) (now (answer .entry)) r (lent (now (head .exit)) (now (elements .exit)) (others (now (tags .entry)) (now (blank .entry)) (now (generations .entry)) (now (masks .entry)) (now (search .exit)))) (now (answer .exit)) ⌝ }
 {
     serving::command(
         head,
@@ -272,7 +268,7 @@ pub extern "C" fn smc_read_element_status<'a>(
     parameters: &[u8],
     answer: &mut [u8],
 ) -> Reply
-    ensures { λ r. ⌜ ended r (lent (now (head .exit)) (now (elements .exit)) (others (now (tags .entry)) (now (blank .entry)) (now (generations .entry)) (now (masks .entry)) (now (search .exit)))) (now (answer .exit)) ≡ command (lent (now (head .entry)) (now (elements .entry)) (others (now (tags .entry)) (now (blank .entry)) (now (generations .entry)) (now (masks .entry)) (now (search .entry)))) host (now (block .entry)) (now (parameters .entry)) (now (answer .entry)) ⌝ }
+    ensures { λ r. ⌜ CommandEnds (lent (now (head .entry)) (now (elements .entry)) (others (now (tags .entry)) (now (blank .entry)) (now (generations .entry)) (now (masks .entry)) (now (search .entry)))) host (now (block .entry)) (now (parameters .entry)) (now (answer .entry)) r (lent (now (head .exit)) (now (elements .exit)) (others (now (tags .entry)) (now (blank .entry)) (now (generations .entry)) (now (masks .entry)) (now (search .exit)))) (now (answer .exit)) ⌝ }
 {
     serving::command(
         head,
@@ -303,7 +299,7 @@ pub extern "C" fn smc_mode_sense<'a>(
     parameters: &[u8],
     answer: &mut [u8],
 ) -> Reply
-    ensures { λ r. ⌜ ended r (lent (now (head .exit)) (now (elements .exit)) (others (now (tags .entry)) (now (blank .entry)) (now (generations .entry)) (now (masks .entry)) (now (search .exit)))) (now (answer .exit)) ≡ command (lent (now (head .entry)) (now (elements .entry)) (others (now (tags .entry)) (now (blank .entry)) (now (generations .entry)) (now (masks .entry)) (now (search .entry)))) host (now (block .entry)) (now (parameters .entry)) (now (answer .entry)) ⌝ }
+    ensures { λ r. ⌜ CommandEnds (lent (now (head .entry)) (now (elements .entry)) (others (now (tags .entry)) (now (blank .entry)) (now (generations .entry)) (now (masks .entry)) (now (search .entry)))) host (now (block .entry)) (now (parameters .entry)) (now (answer .entry)) r (lent (now (head .exit)) (now (elements .exit)) (others (now (tags .entry)) (now (blank .entry)) (now (generations .entry)) (now (masks .entry)) (now (search .exit)))) (now (answer .exit)) ⌝ }
 {
     serving::command(
         head,
@@ -334,7 +330,7 @@ pub extern "C" fn smc_send_volume_tag<'a>(
     parameters: &[u8],
     answer: &mut [u8],
 ) -> Reply
-    ensures { λ r. ⌜ ended r (lent (now (head .exit)) (now (elements .exit)) (others (now (tags .entry)) (now (blank .entry)) (now (generations .entry)) (now (masks .entry)) (now (search .exit)))) (now (answer .exit)) ≡ command (lent (now (head .entry)) (now (elements .entry)) (others (now (tags .entry)) (now (blank .entry)) (now (generations .entry)) (now (masks .entry)) (now (search .entry)))) host (now (block .entry)) (now (parameters .entry)) (now (answer .entry)) ⌝ }
+    ensures { λ r. ⌜ CommandEnds (lent (now (head .entry)) (now (elements .entry)) (others (now (tags .entry)) (now (blank .entry)) (now (generations .entry)) (now (masks .entry)) (now (search .entry)))) host (now (block .entry)) (now (parameters .entry)) (now (answer .entry)) r (lent (now (head .exit)) (now (elements .exit)) (others (now (tags .entry)) (now (blank .entry)) (now (generations .entry)) (now (masks .entry)) (now (search .exit)))) (now (answer .exit)) ⌝ }
 {
     serving::command(
         head,
@@ -365,7 +361,7 @@ pub extern "C" fn smc_request_volume_element_address<'a>(
     parameters: &[u8],
     answer: &mut [u8],
 ) -> Reply
-    ensures { λ r. ⌜ ended r (lent (now (head .exit)) (now (elements .exit)) (others (now (tags .entry)) (now (blank .entry)) (now (generations .entry)) (now (masks .entry)) (now (search .exit)))) (now (answer .exit)) ≡ command (lent (now (head .entry)) (now (elements .entry)) (others (now (tags .entry)) (now (blank .entry)) (now (generations .entry)) (now (masks .entry)) (now (search .entry)))) host (now (block .entry)) (now (parameters .entry)) (now (answer .entry)) ⌝ }
+    ensures { λ r. ⌜ CommandEnds (lent (now (head .entry)) (now (elements .entry)) (others (now (tags .entry)) (now (blank .entry)) (now (generations .entry)) (now (masks .entry)) (now (search .entry)))) host (now (block .entry)) (now (parameters .entry)) (now (answer .entry)) r (lent (now (head .exit)) (now (elements .exit)) (others (now (tags .entry)) (now (blank .entry)) (now (generations .entry)) (now (masks .entry)) (now (search .exit)))) (now (answer .exit)) ⌝ }
 {
     serving::command(
         head,
@@ -394,7 +390,7 @@ pub extern "C" fn smc_import<'a>(
     address: u32,
     volume: u32,
 ) -> Reply
-    ensures { λ r. ⌜ ended r (lent (now (head .exit)) (now (elements .exit)) (others (now (tags .entry)) (now (blank .entry)) (now (generations .entry)) (now (masks .entry)) (now (search .exit)))) [] ≡ import (lent (now (head .entry)) (now (elements .entry)) (others (now (tags .entry)) (now (blank .entry)) (now (generations .entry)) (now (masks .entry)) (now (search .entry)))) address volume ⌝ }
+    ensures { λ r. ⌜ ImportEnds (lent (now (head .entry)) (now (elements .entry)) (others (now (tags .entry)) (now (blank .entry)) (now (generations .entry)) (now (masks .entry)) (now (search .entry)))) address volume r (lent (now (head .exit)) (now (elements .exit)) (others (now (tags .entry)) (now (blank .entry)) (now (generations .entry)) (now (masks .entry)) (now (search .exit)))) [] ⌝ }
 {
     serving::event::import(
         head,
@@ -420,7 +416,7 @@ pub extern "C" fn smc_export<'a>(
     search: &mut [u8],
     address: u32,
 ) -> Reply
-    ensures { λ r. ⌜ ended r (lent (now (head .exit)) (now (elements .exit)) (others (now (tags .entry)) (now (blank .entry)) (now (generations .entry)) (now (masks .entry)) (now (search .exit)))) [] ≡ export (lent (now (head .entry)) (now (elements .entry)) (others (now (tags .entry)) (now (blank .entry)) (now (generations .entry)) (now (masks .entry)) (now (search .entry)))) address ⌝ }
+    ensures { λ r. ⌜ ExportEnds (lent (now (head .entry)) (now (elements .entry)) (others (now (tags .entry)) (now (blank .entry)) (now (generations .entry)) (now (masks .entry)) (now (search .entry)))) address r (lent (now (head .exit)) (now (elements .exit)) (others (now (tags .entry)) (now (blank .entry)) (now (generations .entry)) (now (masks .entry)) (now (search .exit)))) [] ⌝ }
 {
     serving::event::export(
         head,
@@ -444,7 +440,7 @@ pub extern "C" fn smc_reset<'a>(
     masks: &'a [u8],
     search: &mut [u8],
 ) -> Reply
-    ensures { λ r. ⌜ ended r (lent (now (head .exit)) (now (elements .exit)) (others (now (tags .entry)) (now (blank .entry)) (now (generations .entry)) (now (masks .entry)) (now (search .exit)))) [] ≡ reset (lent (now (head .entry)) (now (elements .entry)) (others (now (tags .entry)) (now (blank .entry)) (now (generations .entry)) (now (masks .entry)) (now (search .entry)))) ⌝ }
+    ensures { λ r. ⌜ ResetEnds (lent (now (head .entry)) (now (elements .entry)) (others (now (tags .entry)) (now (blank .entry)) (now (generations .entry)) (now (masks .entry)) (now (search .entry)))) r (lent (now (head .exit)) (now (elements .exit)) (others (now (tags .entry)) (now (blank .entry)) (now (generations .entry)) (now (masks .entry)) (now (search .exit)))) [] ⌝ }
 {
     serving::event::reset(head, elements, tags, blank, generations, masks, search)
 }
@@ -462,7 +458,7 @@ pub extern "C" fn smc_replay<'a>(
     expected: u32,
     budget: u32,
 ) -> Replayed
-    ensures { λ r. ⌜ endedReplay r (lent (now (head .exit)) (now (elements .exit)) (others (now (tags .entry)) (now (blank .entry)) (now (generations .entry)) (now (masks .entry)) (now (search .exit)))) ≡ replay (lent (now (head .entry)) (now (elements .entry)) (others (now (tags .entry)) (now (blank .entry)) (now (generations .entry)) (now (masks .entry)) (now (search .entry)))) (now (log .entry)) expected budget ⌝ }
+    ensures { λ r. ⌜ ReplayEnds (lent (now (head .entry)) (now (elements .entry)) (others (now (tags .entry)) (now (blank .entry)) (now (generations .entry)) (now (masks .entry)) (now (search .entry)))) (now (log .entry)) expected budget r (lent (now (head .exit)) (now (elements .exit)) (others (now (tags .entry)) (now (blank .entry)) (now (generations .entry)) (now (masks .entry)) (now (search .exit)))) ⌝ }
 {
     replay::replay(
         head,

@@ -5,16 +5,6 @@ ghost use Prim.Native.Nat.{_-_};
 ghost use Rattle.rules.specs.Bytes.{byte};
 ghost use Rattle.rules.specs.Fitting.{accepts};
 
-// A difference that stops at 0.
-pub fn less(a: usize, b: usize) -> usize
-    ensures { λ r. ⌜ r ≡ a - b ⌝ }
-{
-    if a < b {
-        return 0;
-    }
-    a - b
-}
-
 // The byte of a table, 0 behind its end.
 pub fn byte_or_none(xs: &[u8], i: usize) -> u8
     ensures { λ r. ⌜ r ≡ byte (now (xs .entry)) i ⌝ }
@@ -32,7 +22,7 @@ pub fn takes(mask: u8, generation: u8) -> bool
     if generation > layout::MOST_GENERATIONS {
         return false;
     }
-    (mask >> less(generation as usize, 1)) % 2 == 1
+    (mask >> wire::less(generation as usize, 1)) % 2 == 1
 }
 
 // The drive whose mask is the `drive`-th, from 0, takes a volume, the first being volume 1.
@@ -40,6 +30,6 @@ pub fn drive_takes(generations: &[u8], masks: &[u8], drive: usize, volume: u16) 
     ensures { λ r. ⌜ r ≡ accepts (byte (now (masks .entry)) drive) (byte (now (generations .entry)) (volume - 1)) ⌝ }
 {
     let mask = byte_or_none(masks, drive);
-    let generation = byte_or_none(generations, less(volume as usize, 1));
+    let generation = byte_or_none(generations, wire::less(volume as usize, 1));
     takes(mask, generation)
 }

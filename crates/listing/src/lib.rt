@@ -1,7 +1,7 @@
 // Listings: of the elements that are marked those chosen, counted range by range, and what of their pages is returned. READ ELEMENT STATUS is the
 // listing of all.
 ghost use mathlib.Core.Path.{_≡_};
-ghost use Prim.Native.Nat.{_+_, _*_, _-_, _≤_, _<_};
+ghost use Prim.Native.Nat.{_+_, _*_, _≤_, _<_};
 ghost use lib.ListN.{length};
 ghost use Rattle.rules.specs.Bytes.{put, cut};
 ghost use Rattle.rules.specs.Tables.{Tables, Rest, elementAt, lent};
@@ -51,16 +51,6 @@ pub struct Told {
 
 // ---- counting
 
-// a less b, or 0
-fn less(a: usize, b: usize) -> usize
-    ensures { λ r. ⌜ r ≡ a - b ⌝ }
-{
-    if a < b {
-        return 0;
-    }
-    a - b
-}
-
 // "type (0 all ..)"
 fn of_type(code: u8, kind: u8) -> bool
     ensures { λ r. ⌜ r ≡ suits code kind ⌝ }
@@ -77,8 +67,8 @@ fn pick(q: Query, marks: &[u8], s: Tally, r: tables::Range) -> usize
     ensures { λ n. ⌜ n ≡ chosenAt (now (marks .entry)) q s (meaning r) ⌝ }
 {
     if of_type(q.code, r.kind) {
-        let skip = less(q.start, r.first as usize);
-        let n = less(r.count as usize, skip);
+        let skip = wire::less(q.start, r.first as usize);
+        let n = wire::less(r.count as usize, skip);
         return wire::least(s.left, pages::marks::count(marks, s.place + skip, n));
     }
     0
@@ -112,7 +102,7 @@ fn rest(tagged: bool, room: usize, n: usize, m: usize) -> usize
     ensures { λ r. ⌜ r ≡ roomBehind tagged room n m ⌝ }
 {
     if m == n {
-        return less(room, page_bytes(tagged, m));
+        return wire::less(room, page_bytes(tagged, m));
     }
     0
 }
@@ -155,9 +145,9 @@ fn choose(q: Query, marks: &[u8], s: Tally, r: tables::Range) -> Part
         };
     }
     let m = fit(q.tagged, s.room, n);
-    let skip = less(q.start, r.first as usize);
+    let skip = wire::less(q.start, r.first as usize);
     let place = s.place + skip;
-    let count = less(r.count as usize, skip);
+    let count = wire::less(r.count as usize, skip);
     let lead = pages::marks::reach(marks, place, count, 1);
     let run = pages::marks::reach(marks, place, count, m);
     Part { n, m, lead, run }
@@ -170,15 +160,15 @@ fn step(q: Query, s: Tally, r: tables::Range, p: Part) -> Tally
     ensures { λ x. ⌜ x ≡ stepBy q s (meaning r) p ⌝ }
 {
     let first = r.first as usize;
-    let start = first + less(q.start, first);
+    let start = first + wire::less(q.start, first);
     Tally {
         place: s.place + r.count as usize,
-        left: less(s.left, p.n),
+        left: wire::less(s.left, p.n),
         room: rest(q.tagged, s.room, p.n, p.m),
         at: s.at + page_bytes(q.tagged, p.m),
         number: s.number + p.n,
         total: s.total + page_bytes(q.tagged, p.n),
-        first: lead(s.number, p.n, less(start + p.lead, 1), s.first),
+        first: lead(s.number, p.n, wire::less(start + p.lead, 1), s.first),
         next: behind(p.m, start + p.run, s.next),
     }
 }
@@ -225,7 +215,7 @@ fn put_range<'a>(
         return;
     }
     let first = r.first as usize;
-    let skip = less(q.start, first);
+    let skip = wire::less(q.start, first);
     pages::put_page(
         answer,
         s.at,
@@ -277,7 +267,7 @@ fn begin(most: usize, room: usize, from: usize) -> Tally
     Tally {
         place: 0,
         left: most,
-        room: less(room, pages::HEADER),
+        room: wire::less(room, pages::HEADER),
         at: pages::HEADER,
         number: 0,
         total: 0,

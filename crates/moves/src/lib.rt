@@ -45,7 +45,7 @@ fn unfit(head: &[u8], generations: &[u8], masks: &[u8], kind: u8, address: u16, 
         return false;
     }
     let first = wire::word_at(head, DRIVES);
-    let drive = fitting::less(address as usize, first as usize);
+    let drive = wire::less(address as usize, first as usize);
     !fitting::drive_takes(generations, masks, drive, volume)
 }
 

@@ -193,16 +193,6 @@ fn mark_places(
     }
 }
 
-// a less b, or 0
-fn less(a: usize, b: usize) -> usize
-    ensures { λ r. ⌜ r ≡ a - b ⌝ }
-{
-    if a < b {
-        return 0;
-    }
-    a - b
-}
-
 // Marks what is found of a run, whose elements lie from a place on: none of another type, and none that the search has come past.
 fn mark_run(
     marks: &mut [u8],
@@ -223,7 +213,7 @@ fn mark_run(
     }
     let count = r.count as usize;
     let next = wire::triple_at(search, layout::NEXT) as usize;
-    let passed = wire::least(count, less(next, r.first as usize));
+    let passed = wire::least(count, wire::less(next, r.first as usize));
     mark_places(
         marks,
         elements,

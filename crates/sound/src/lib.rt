@@ -2,7 +2,7 @@
 mod drives;
 pub mod element;
 mod marks;
-mod search;
+mod searches;
 
 use tables::Range;
 ghost use mathlib.Core.Path.{_≡_};
@@ -79,7 +79,7 @@ fn rest_sound(tags: &[u8], blank: &[u8], generations: &[u8], search: &[u8]) -> b
     if !generations_sound(tables::volumes(tags), generations) {
         return false;
     }
-    search::search_sound(search)
+    searches::search_sound(search)
 }
 
 // What the check tells, and the runs of sound tables, which callers look up by.

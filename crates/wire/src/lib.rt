@@ -1,7 +1,7 @@
-// Numbers of two and three bytes in slices, high byte first, runs of bytes, and the lesser of two numbers.
+// Numbers of two and three bytes in slices, high byte first, runs of bytes, the lesser of two numbers and a difference that stops at 0.
 ghost use mathlib.Core.Path.{_≡_};
 ghost use mathlib.Core.List.{[], _∷_};
-ghost use Prim.Native.Nat.{_+_, _*_, _≤_, _<_, min};
+ghost use Prim.Native.Nat.{_+_, _*_, _-_, _≤_, _<_, min};
 ghost use lib.ListN.{length};
 ghost use Rattle.rules.specs.Bytes.{word, triple, three, put, high, low};
 
@@ -98,4 +98,14 @@ pub fn least(a: usize, b: usize) -> usize
         return a;
     }
     b
+}
+
+// A difference that stops at 0.
+pub fn less(a: usize, b: usize) -> usize
+    ensures { λ r. ⌜ r ≡ a - b ⌝ }
+{
+    if a < b {
+        return 0;
+    }
+    a - b
 }

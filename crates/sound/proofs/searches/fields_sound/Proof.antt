@@ -1,4 +1,4 @@
--- `sound::search::fields_sound` meets its contract. Assumes nothing.
+-- `sound::searches::fields_sound` meets its contract. Assumes nothing.
 use Rattle.sound.specs.Checks.{fieldsSound}
 use Rattle.sound_head.proofs.Tests.{all-le-stop, all-le-go, all-last}
 use Rattle.rules.specs.Tables.{behindLast, searchType, nextAddress}
@@ -7,8 +7,8 @@ use lib.Dec.{leb}
 use mathlib.Core.Path.{ap}
 use Prim.Native.Nat.{ℕ}
 use borrow.Author.Needs.{needs}
-use Rattle.sound.proofs.search.fields_sound.Statement.{statement}
-use Rattle.sound.proofs.search.fields_sound.Tie as tie
+use Rattle.sound.proofs.searches.fields_sound.Statement.{statement}
+use Rattle.sound.proofs.searches.fields_sound.Tie as tie
 
 shared-slice-read-if1 : tie.Need-shared-slice-read-if1
 shared-slice-read-if1 c = search needs

@@ -1,12 +1,12 @@
--- `sound::search::search_sound` meets its contract. Assumes nothing.
+-- `sound::searches::search_sound` meets its contract. Assumes nothing.
 use Rattle.sound.proofs.Searching.{by-fields, by-zeros}
 use Rattle.sound_head.proofs.Tests.{all-eq-stop}
 use Rattle.rules.specs.Sound.{searchSound}
 use Rattle.rules.specs.Tables.{action}
 use Rattle.rules.specs.Bytes.{byte}
 use borrow.Author.Needs.{needs}
-use Rattle.sound.proofs.search.search_sound.Statement.{statement}
-use Rattle.sound.proofs.search.search_sound.Tie as tie
+use Rattle.sound.proofs.searches.search_sound.Statement.{statement}
+use Rattle.sound.proofs.searches.search_sound.Tie as tie
 
 returns : tie.Need-returns
 unfolding searchSound

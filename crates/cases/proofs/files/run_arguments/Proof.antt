@@ -1,10 +1,10 @@
--- `case_files::run_arguments`: file, room and bytes keep their lengths. Assumes nothing.
+-- `cases::files::run_arguments`: file, room and bytes keep their lengths. Assumes nothing.
 use lib.ListN.{length}
 use native.Mathlib.Omega.{arith}
 use Prim.Native.Nat.{_-_}
 use mathlib.Core.Path.{_≡_, refl, _∙_}
-use Rattle.case_files.proofs.run_arguments.Statement.{statement}
-use Rattle.case_files.proofs.run_arguments.Tie as tie
+use Rattle.cases.proofs.files.run_arguments.Statement.{statement}
+use Rattle.cases.proofs.files.run_arguments.Tie as tie
 
 abbrev Inv-loop : tie.InvT-loop
 Inv-loop n file₀ room₀ bytes₀ run₀ i₀ file room bytes run i = (length file ≡ length file₀) × (length room ≡ length room₀) × (length bytes ≡ length bytes₀)

@@ -1,12 +1,12 @@
--- `sound::search::all_zero`: at the loop's head `fine` tells of those before i. Assumes nothing.
+-- `sound::searches::all_zero`: at the loop's head `fine` tells of those before i. Assumes nothing.
 use Rattle.sound.proofs.Gathered.{Gathered, gather-begins, gather-on, gather-ends}
 use Rattle.rules.specs.Tables.{searchSize}
 use Rattle.rules.specs.Bytes.{byte}
 use borrow.Author.Needs.{needs}
 use lib.Dec.{eqb}
 use Prim.Native.Nat.{_-_}
-use Rattle.sound.proofs.search.all_zero.Statement.{statement}
-use Rattle.sound.proofs.search.all_zero.Tie as tie
+use Rattle.sound.proofs.searches.all_zero.Statement.{statement}
+use Rattle.sound.proofs.searches.all_zero.Tie as tie
 
 abbrev Inv-loop : tie.InvT-loop
 Inv-loop search fine₀ i₀ fine i = Gathered (λ j. eqb (byte search j) 0) searchSize fine i

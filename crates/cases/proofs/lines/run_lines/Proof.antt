@@ -1,10 +1,10 @@
--- `case_lines::run_lines`: room and bytes keep their lengths, and each turn goes on behind a line. Assumes nothing.
+-- `cases::lines::run_lines`: room and bytes keep their lengths, and each turn goes on behind a line. Assumes nothing.
 use lib.ListN.{length}
 use native.Mathlib.Omega.{arith}
 use Prim.Native.Nat.{_-_}
 use mathlib.Core.Path.{_≡_, refl, _∙_}
-use Rattle.case_lines.proofs.run_lines.Statement.{statement}
-use Rattle.case_lines.proofs.run_lines.Tie as tie
+use Rattle.cases.proofs.lines.run_lines.Statement.{statement}
+use Rattle.cases.proofs.lines.run_lines.Tie as tie
 
 abbrev Inv-loop : tie.InvT-loop
 Inv-loop path file room₀ bytes₀ progress₀ at₀ room bytes progress at = (length room ≡ length room₀) × (length bytes ≡ length bytes₀)

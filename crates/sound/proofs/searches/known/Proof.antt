@@ -1,8 +1,8 @@
--- `sound::search::known` meets its contract. Assumes nothing.
+-- `sound::searches::known` meets its contract. Assumes nothing.
 use Rattle.rules.proofs.Rungs.{rungs}
 use Rattle.rules.specs.Search.{knownAction}
-use Rattle.sound.proofs.search.known.Statement.{statement}
-use Rattle.sound.proofs.search.known.Tie as tie
+use Rattle.sound.proofs.searches.known.Statement.{statement}
+use Rattle.sound.proofs.searches.known.Tie as tie
 
 returns : tie.Need-returns
 unfolding knownAction

@@ -1,4 +1,5 @@
 // The files, one after the other.
+use crate::lines;
 use case_reading::Got;
 use case_telling::Run;
 
@@ -8,7 +9,7 @@ fn run_file(run: Run, path: &[u8], file: &mut [u8], room: &mut [u8], bytes: &mut
     let Got::Whole(n) = got else {
         return case_reading::missed(r, path, got);
     };
-    let last = case_lines::run_lines(r, path, case_rooms::part(file, 0, n), room, bytes);
+    let last = lines::run_lines(r, path, case_rooms::part(file, 0, n), room, bytes);
     case_reading::ended(last, path)
 }
 
