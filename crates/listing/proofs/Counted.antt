@@ -165,6 +165,10 @@ module _ (marks : List ℕ) (q : Query) (t : Tables) (ok : Labelled t) where
   pub write-none : (l : List ℕ) (s : Tally) → put l (s .at) (added marks q t s []) ≡ l
   write-none l s = ap (put l (s .at)) (nothing-added s) ∙ put-nothing l (s .at)
 
+  pub write-nothing : (l : List ℕ) (s : Tally) (rs : List Range) → s .room ≡ 0 → l ≡ put l (s .at) (added marks q t s rs)
+  unfolding added
+  write-nothing l s rs e = sym (ap (put l (s .at)) (rw e (no-room (s .left) (s .place) rs)) ∙ put-nothing l (s .at))
+
   total-step : (s : Tally) (r : Range) (rs : List Range) → elementAt (s .place + r .count) ≤ length (t .elements)
       → s .total + length (joined (pagesFrom s (r ∷ rs))) ≡ stepOf marks q s r .total + length (joined (pagesFrom (stepOf marks q s r) rs))
   unfolding planned stepOf

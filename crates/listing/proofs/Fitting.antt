@@ -7,7 +7,7 @@ use mathlib.Core.Bool.{Bool, true, false}
 use mathlib.Core.List.{List, [], _∷_, _++_, map, append-assoc}
 use lib.ListN.{length, take, length-append}
 use lib.Dec.{eqb, ltb, eqb·suc-suc, leb·suc-zero, eqb·zero-suc, eqb·suc-zero}
-use borrow.Author.Tests.{le-leb, lt-leb, ltb-true, ltb-false}
+use borrow.Author.Tests.{le-leb, lt-leb, le-ltb, ltb-true, ltb-false}
 use Rattle.rules.specs.Choice.{when}
 use Rattle.rules.specs.Tables.{Tables}
 use Rattle.rules.specs.Roster.{Slot}
@@ -148,6 +148,22 @@ unfolding fitsIn
 fit-is tagged room n =
     on (Fit tagged room n) (ltb room (8 + width tagged)) (λ e. fit-none tagged room n (ltb-true room (8 + width tagged) e))
     (λ e. fit-some tagged room n (ltb-false room (8 + width tagged) e))
+
+-- a page that fits whole, and one of which a part does
+
+pub fits-whole : (tagged : Bool) (room n : ℕ) → 8 + width tagged ≤ room → pageBytes tagged n ≤ room → fitsIn tagged room n ≡ n
+unfolding fitsIn pageBytes width when
+fits-whole true room zero h p = rw (le-ltb room 60 h) (omega arith)
+fits-whole true room (suc n) h p = rw (le-ltb room 60 h) (omega (arith, rw (eqb·suc-zero n) at p))
+fits-whole false room zero h p = rw (le-ltb room 24 h) (omega arith)
+fits-whole false room (suc n) h p = rw (le-ltb room 24 h) (omega (arith, rw (eqb·suc-zero n) at p))
+
+pub fits-part : (tagged : Bool) (room n : ℕ) → 8 + width tagged ≤ room → room < pageBytes tagged n → fitsIn tagged room n ≡ (room - 8) / width tagged
+unfolding fitsIn pageBytes width when
+fits-part true room zero h p = absurd (omega (arith, p))
+fits-part true room (suc n) h p = rw (le-ltb room 60 h) (omega (arith, rw (eqb·suc-zero n) at p))
+fits-part false room zero h p = absurd (omega (arith, p))
+fits-part false room (suc n) h p = rw (le-ltb room 24 h) (omega (arith, rw (eqb·suc-zero n) at p))
 
 -- ---- the bytes of a page
 

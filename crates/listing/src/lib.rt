@@ -74,15 +74,19 @@ fn pick(q: Query, marks: &[u8], s: Tally, r: tables::Range) -> usize
     0
 }
 
-// How many of the n elements of a page fit in room, its header with the first.
+// How many of the n elements of a page fit in room, its header with the first. Mostly all do, and a division takes as long as all the rest of this.
 fn fit(tagged: bool, room: usize, n: usize) -> usize
+    requires { ⌜ n < 65536 ⌝ }
     ensures { λ m. ⌜ m ≡ fitsIn tagged room n ⌝ }
 {
     let w = pages::width(tagged);
     if room < pages::HEADER + w {
         return 0;
     }
-    wire::least(n, (room - pages::HEADER) / w)
+    if page_bytes(tagged, n) <= room {
+        return n;
+    }
+    (room - pages::HEADER) / w
 }
 
 // The bytes of a page header and m descriptors; of none, none.
@@ -233,7 +237,7 @@ fn put_range<'a>(
     );
 }
 
-// Writes what the four ranges add.
+// Writes what the four ranges add: without room, as where only the header is asked for, nothing.
 fn put_ranges<'a>(
     answer: &mut [u8],
     elements: &[u8],
@@ -250,6 +254,9 @@ fn put_ranges<'a>(
     requires { ⌜ Labelled (stock (now elements) (now tags) (now blank)) ⌝ }
     ensures { λ _. ⌜ now (answer .exit) ≡ put (now (answer .entry)) (s .at) (added (now (marks .entry)) q (stock (now (elements .entry)) (now (tags .entry)) (now (blank .entry))) s (meant rs)) ⌝ }
 {
+    if s.room == 0 {
+        return;
+    }
     let mut x = s;
     let mut k = 0;
     while k < 4 {

@@ -16,9 +16,9 @@ pub fn marked(marks: &[u8], place: usize) -> bool
     false
 }
 
-// How many of n places are marked, from a place on.
+// How many of n places are marked, from a place on. The number is counted in 16 bits, of which the compiler adds eight at a time.
 pub fn count(marks: &[u8], place: usize, n: usize) -> usize
-    requires { ⌜ place + n < 16777216 ⌝ }
+    requires { ⌜ (place + n < 16777216) × (n < 65536) ⌝ }
     ensures { λ r. ⌜ r ≡ marksIn (now (marks .entry)) n place ⌝ }
 {
     if marks.len() == 0 {
@@ -26,14 +26,14 @@ pub fn count(marks: &[u8], place: usize, n: usize) -> usize
     }
     let end = wire::least(place + n, marks.len());
     let mut i = place;
-    let mut k = 0;
+    let mut k: u16 = 0;
     while i < end {
         if marks[i] != 0 {
             k += 1;
         }
         i += 1;
     }
-    k
+    k as usize
 }
 
 // How many of n places reach to the m-th that is marked, from a place on.

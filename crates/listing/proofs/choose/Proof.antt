@@ -1,8 +1,9 @@
 -- `listing::choose` meets its contract. Assumes nothing.
 use mathlib.Core.Path.{sym, _∙_}
+use native.Mathlib.Omega.{arith}
 use denote.Ref.{now}
 use Rattle.tables.specs.Ranges.{meaning}
-use Rattle.listing.proofs.Parts.{some-one, none-part}
+use Rattle.listing.proofs.Parts.{picked-few, some-one, none-part}
 use borrow.Author.Needs.{needs}
 use Rattle.listing.proofs.choose.Statement.{statement}
 use Rattle.listing.proofs.choose.Tie as tie
@@ -16,7 +17,9 @@ returns c =
     none-part (now (a .marks)) (a .q) (a .s) (meaning (a .r)) (sym (c .before .pick .ensures) ∙ c .if1 .taken)
 
 fit-requires : tie.Need-fit-requires
-fit-requires c κs = search needs
+fit-requires c κs =
+    let a = c .before .before .before .args in
+    omega (arith, rw (← c .before .pick .ensures) at (picked-few (now (a .marks)) (a .q) (a .s) (meaning (a .r)) .1))
 
 cast-less : tie.Need-cast-less
 cast-less c = search needs

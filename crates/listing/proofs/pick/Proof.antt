@@ -1,5 +1,6 @@
 -- `listing::pick` meets its contract. Assumes nothing.
 use mathlib.Core.Path.{sym, _∙_}
+use native.Mathlib.Omega.{arith}
 use Rattle.tables.specs.Ranges.{meaning}
 use Rattle.listing.proofs.Parts.{picks-suited, picks-unsuited}
 use borrow.Author.Needs.{needs}
@@ -25,7 +26,7 @@ add-count : tie.Need-add-count
 add-count c = search needs
 
 count-requires : tie.Need-count-requires
-count-requires c κs = search needs
+count-requires c κs = (omega arith, omega (arith, c .before .less2 .ensures))
 
 least-requires : tie.Need-least-requires
 least-requires c κs = search needs

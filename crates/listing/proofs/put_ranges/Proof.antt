@@ -6,7 +6,7 @@ use lib.ListN.{length}
 use borrow.Author.Needs.{needs}
 use Rattle.pages.specs.Pages.{stock}
 use Rattle.listing.proofs.Parts.{part-small, step-is}
-use Rattle.listing.proofs.Counted.{within-later}
+use Rattle.listing.proofs.Counted.{within-later, write-nothing}
 use Rattle.listing.proofs.Stages.{Writing, writing-begins, writing-inside, writing-room, writing-stands, writing-on, writing-ends}
 use Rattle.listing.proofs.put_ranges.Statement.{statement}
 use Rattle.listing.proofs.put_ranges.Tie as tie
@@ -20,9 +20,14 @@ abbrev μ-loop : tie.MeasureT-loop
 four : (c : tie.Start Inv-loop μ-loop) → length (c .args .t8) ≡ 4
 four c = search needs
 
+returns : tie.Need-returns Inv-loop μ-loop
+returns c =
+    let s = c .before .before .before .before .before .before .before in
+    write-nothing _ _ _ (s .pre .1 .1 .1) _ _ _ (c .if1 .taken)
+
 loop-holds : tie.Need-loop-holds Inv-loop μ-loop
 loop-holds c =
-    let s = c .before .before .before .before .before in
+    let s = c .before .before .before .before .before .before .before in
     writing-begins _ _ _ _ _ _ (s .pre .0) (s .pre .1 .1 .0) (s .pre .1 .0 .1 .0) (s .pre .1 .0 .1 .1)
 
 mul-r : tie.Need-mul-r Inv-loop μ-loop
@@ -34,14 +39,14 @@ array-copy-out-r c = c .loop-test .taken
 choose-requires : tie.Need-choose-requires Inv-loop μ-loop
 choose-requires c κs =
     let l = c .before .before .loop in
-    let s = c .before .before .before .before .before .before .before .before in
+    let s = c .before .before .before .before .before .before .before .before .before .before in
     (s .pre .1 .0 .0, omega (arith, l .inv .within .place))
 
 put-range-requires : tie.Need-put-range-requires Inv-loop μ-loop
 put-range-requires c κs =
     let picked = c .before in
     let l = picked .before .before .before .loop in
-    let s = picked .before .before .before .before .before .before .before .before .before in
+    let s = picked .before .before .before .before .before .before .before .before .before .before .before in
     let n = four s in
     let ok = s .pre .1 .1 .1 in (
       writing-room _ _ _ ok _ _ _ _ _ _ _ (l .inv) (omega arith),
@@ -55,7 +60,7 @@ step-requires : tie.Need-step-requires Inv-loop μ-loop
 step-requires c κs =
     let picked = c .before .before .before .before in
     let l = picked .before .before .before .loop in
-    let s = picked .before .before .before .before .before .before .before .before .before in
+    let s = picked .before .before .before .before .before .before .before .before .before .before .before in
     let n = four s in
     let ok = s .pre .1 .1 .1 in (
       (s .pre .1 .0 .0, writing-inside _ _ _ ok _ _ _ _ _ _ _ (l .inv) (omega arith)),
@@ -76,7 +81,7 @@ loop-again c =
     let put = c .before .before .before in
     let picked = put .before .before in
     let l = picked .before .before .before .loop in
-    let s = picked .before .before .before .before .before .before .before .before .before in
+    let s = picked .before .before .before .before .before .before .before .before .before .before .before in
     let n = four s in
     writing-on _ _ _ (s .pre .1 .1 .1) _ _ _ _ _ _ _ (l .inv) (omega arith) (s .pre .1 .0 .0) _ (put .put-range .ensures) _
     ((rw (picked .choose .ensures) at (c .step .ensures)) ∙ step-is _ _ _ _)
@@ -84,9 +89,9 @@ loop-again c =
 same-length : tie.Need-same-length Inv-loop μ-loop
 same-length c = c .before .loop .inv .long
 
-returns : tie.Need-returns Inv-loop μ-loop
-returns c =
-    let s = c .before .before .before .before .before .before .before in
+returns-2 : tie.Need-returns-2 Inv-loop μ-loop
+returns-2 c =
+    let s = c .before .before .before .before .before .before .before .before .before in
     let n = four s in
     writing-ends _ _ _ (s .pre .1 .1 .1) _ _ _ _ _ _ (c .before .loop .inv) (omega arith)
 
@@ -96,6 +101,7 @@ put-ranges-spec =
     (tie.spec
     Inv-loop
     μ-loop
+    returns
     loop-holds
     mul-r
     array-copy-out-r
@@ -106,4 +112,4 @@ put-ranges-spec =
     loop-less
     loop-again
     same-length
-    returns)
+    returns-2)

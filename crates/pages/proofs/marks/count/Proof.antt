@@ -2,7 +2,7 @@
 use mathlib.Core.Path.{_≡_, sym}
 use mathlib.Core.Logic.{⊎-elim}
 use native.Mathlib.Omega.{arith}
-use Prim.Native.Nat.{_+_, _-_, _≤_}
+use Prim.Native.Nat.{_+_, _-_, _≤_, _<_}
 use denote.Ref.{now}
 use borrow.Author.Needs.{needs}
 use Rattle.rules.specs.Bytes.{byte}
@@ -12,7 +12,7 @@ use Rattle.pages.proofs.marks.count.Statement.{statement}
 use Rattle.pages.proofs.marks.count.Tie as tie
 
 abbrev Inv-loop : tie.InvT-loop
-Inv-loop marks place n end i₀ k₀ i k = (k + marksIn marks (end - i) i ≡ marksIn marks (end - place) place) × (k ≤ i)
+Inv-loop marks place n end i₀ k₀ i k = (k + marksIn marks (end - i) i ≡ marksIn marks (end - place) place) × ((k + place ≤ i) × (k < 65536))
 
 abbrev μ-loop : tie.MeasureT-loop
 μ-loop marks place n end i₀ k₀ i k = end - i
@@ -49,9 +49,12 @@ loop-again c =
     let marks = now (tested .before .before .before .args .marks) in
     let ne = tested .before .if1 .left in
     ⊎-elim
-    (λ w. let m = count-marked marks (l .i) (tested .least .result) ne (c .before .before .loop-test .taken) (w .0 .taken) in (omega (arith, w .1), omega (arith, w .1)))
-    (λ w. let m = count-not marks (l .i) (tested .least .result) ne (c .before .before .loop-test .taken) (w .0 .left) in (omega (arith, w .1), omega (arith, w .1)))
+    (λ w. let m = count-marked marks (l .i) (tested .least .result) ne (c .before .before .loop-test .taken) (w .0 .taken) in (omega (arith, w .1), (omega (arith, w .1), omega (arith, w .1))))
+    (λ w. let m = count-not marks (l .i) (tested .least .result) ne (c .before .before .loop-test .taken) (w .0 .left) in (omega (arith, w .1), (omega (arith, w .1), omega (arith, w .1))))
     (c .if2 .came)
+
+cast-result : tie.Need-cast-result Inv-loop μ-loop
+cast-result c = omega (arith, c .before .loop .inv .1 .1)
 
 returns-2 : tie.Need-returns-2 Inv-loop μ-loop
 returns-2 c =
@@ -77,4 +80,5 @@ count-spec =
     add-i
     loop-less
     loop-again
+    cast-result
     returns-2)
