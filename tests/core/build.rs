@@ -10,7 +10,8 @@ use std::time::SystemTime;
 /// Another library than the usual one.
 const ELSEWHERE: &str = "CHANGER_STATICLIB";
 const USUAL: &str = "target/staticlib/libchanger.a";
-const CRATE: &str = "changer";
+/// The crates whose entries it holds.
+const PARTS: [&str; 3] = ["entry_primary", "entry_changer", "entry_panel"];
 const BUILD_IT: &str = "run `bin/library` in the repository";
 
 const ENTRIES: [&str; 16] = [
@@ -112,12 +113,12 @@ fn changed(file: &Path) -> Option<SystemTime> {
     fs::metadata(file).and_then(|about| about.modified()).ok()
 }
 
-/// The crate and all that it stands on. A line of the listing is "NAME: what it stands on".
+/// The crates of the entries and all that they stand on. A line of the listing is "NAME: what it stands on".
 fn crates_behind(listing: &Path) -> BTreeSet<String> {
     println!("cargo:rerun-if-changed={}", listing.display());
     let text = fs::read_to_string(listing).unwrap_or_default();
     let mut found = BTreeSet::new();
-    let mut open = vec![CRATE.to_string()];
+    let mut open = PARTS.map(String::from).to_vec();
     while let Some(name) = open.pop() {
         if found.insert(name.clone()) {
             let mut lines = text.lines().filter_map(|line| line.split_once(':'));

@@ -23,7 +23,7 @@ fn event<'a>(
     ensures { λ r. ⌜ ended r (lent (now (head .exit)) (now (elements .exit)) (others (now (tags .entry)) (now (blank .entry)) (now (generations .entry)) (now (masks .entry)) (now (search .exit)))) [] ≡ eventOf what first second (lent (now (head .entry)) (now (elements .entry)) (others (now (tags .entry)) (now (blank .entry)) (now (generations .entry)) (now (masks .entry)) (now (search .entry)))) ⌝ }
 {
     if what == word::IMPORT {
-        return changer::smc_import(
+        return entry_panel::smc_import(
             head,
             elements,
             tags,
@@ -36,7 +36,7 @@ fn event<'a>(
         );
     }
     if what == word::EXPORT {
-        return changer::smc_export(
+        return entry_panel::smc_export(
             head,
             elements,
             tags,
@@ -47,7 +47,7 @@ fn event<'a>(
             first,
         );
     }
-    changer::smc_reset(head, elements, tags, blank, generations, masks, search)
+    entry_panel::smc_reset(head, elements, tags, blank, generations, masks, search)
 }
 
 // The call of the core that a line names, on the tables as they lie.
@@ -70,7 +70,7 @@ pub fn enter<'a>(
     ensures { λ r. ⌜ ended r (lent (now (head .exit)) (now (elements .exit)) (others (now (tags .entry)) (now (blank .entry)) (now (generations .entry)) (now (masks .entry)) (now (search .exit)))) (now (answer .exit)) ≡ called what first second (lent (now (head .entry)) (now (elements .entry)) (others (now (tags .entry)) (now (blank .entry)) (now (generations .entry)) (now (masks .entry)) (now (search .entry)))) host (now (block .entry)) (now (parameters .entry)) (now (answer .entry)) ⌝ }
 {
     if what == word::COMMAND {
-        return changer::smc_command(
+        return entry_changer::smc_command(
             head,
             elements,
             tags,

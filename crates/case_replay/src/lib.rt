@@ -31,7 +31,7 @@ fn made(
     let e = case_rooms::least(sizes[parts::ELEMENTS], elements.len());
     let s = case_rooms::least(sizes[parts::SEARCH], search.len());
     let whole = case_rooms::part(room, parts::LOG_AT, log.length);
-    changer::smc_replay(
+    entry_panel::smc_replay(
         &mut head[0..h],
         &mut elements[0..e],
         case_rooms::part(room, parts::TAGS_AT, sizes[parts::TAGS]),

@@ -102,7 +102,7 @@ pub fn carry_out<'a>(
 {
     match admission::judge(op, head, elements, host, block, parameters) {
         Admission::Pending => {
-            steps::report_attention(head, host);
+            sense::attention::report(head, host);
         }
         Admission::Held => {
             order::conflict(head, host);

@@ -1,4 +1,6 @@
 // What a host is told: REQUEST SENSE, from step 5 on.
+pub mod attention;
+
 use order::Reply;
 ghost use mathlib.Core.Path.{_≡_};
 ghost use mathlib.Core.List.{List};

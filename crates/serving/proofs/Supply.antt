@@ -11,7 +11,7 @@ use Rattle.rules.proofs.KeepSearch.{search-length}
 use Rattle.tables.specs.declared.Range.{Range}
 use Rattle.tables.specs.Ranges.{Runs}
 use Rattle.ports.specs.Judged.{Ported, Importable}
-use Rattle.steps.proofs.Supply.{head-room, records}
+use Rattle.acts.proofs.Supply.{head-room, records}
 
 pub search-room : (head elements : List ℕ) (rest : Rest) → sound (lent head elements rest) ≡ true → length (rest .search) ≡ searchSize
 search-room head elements rest s = search-length _ (sound-true (lent head elements rest) s .rest-fits .search-fits)

@@ -17,11 +17,6 @@ use Rattle.admission.specs.declared.Admission.the-variants.{Pending, Held, Faul
 use Rattle.admission.specs.Admitting.{admission, onAdmission}
 use Rattle.admission.proofs.Admissions.{is-pending, admission-is}
 
--- the command that was chosen
-pub acts : (op o : Operation) → op ≡ o → (t : Tables) (h : ℕ) (block list buffer : List ℕ)
-    → fits buffer (act (meaning o) t h block list) ≡ fits buffer (act (meaning op) t h block list)
-acts op o told t h block list buffer = rw told refl
-
 -- attention that is told is told without bytes
 attention-fits : (t : Tables) (h : ℕ) (buffer : List ℕ) (rest : Verdict) → attention (t .head) h ≢ 0 → fits buffer (afterAttention t h rest) ≡ afterAttention t h rest
 unfolding afterAttention fits when

@@ -6,7 +6,7 @@ use Rattle.rules.specs.Bytes.{byte}
 use Rattle.rules.specs.Tables.{others}
 use Rattle.rules.proofs.Soundness.{within-low, within-high}
 use Rattle.operation.proofs.Lengths.{some}
-use Rattle.steps.proofs.Supply.{suited, countable, listable-by}
+use Rattle.acts.proofs.Supply.{suited, countable, listable-by}
 use Rattle.serving.proofs.Ends.{fitting, fit-is}
 use Rattle.log_call.proofs.Commands.{no-host, no-block, no-list, obeyed}
 use borrow.Author.Needs.{needs}

@@ -15,8 +15,8 @@ judge-requires c κs = search needs
 enum-told : tie.Need-enum-told
 enum-told c = search needs
 
-report-attention-requires : tie.Need-report-attention-requires
-report-attention-requires c κs =
+report-requires : tie.Need-report-requires
+report-requires c κs =
     let told = c .before in
     let judged = told .before .before in
     let s = judged .before .before .before .before .before .before .before .before .before .before .before .pre in
@@ -52,7 +52,7 @@ returns c =
     let called = c .before .before in
     let told = called .before .before in
     let judged = told .before .before in
-    λ rest g. admits _ (lent _ _ (searching rest _)) _ _ _ _ _ (judged .judge .ensures) _ (told .enum-told .given .1) (left-by (lent _ _ (searching rest _)) [] _ _ (called .report-attention .ensures _ (searching rest _) [] _))
+    λ rest g. admits _ (lent _ _ (searching rest _)) _ _ _ _ _ (judged .judge .ensures) _ (told .enum-told .given .1) (left-by (lent _ _ (searching rest _)) [] _ _ (called .report .ensures _ (searching rest _) [] _))
 
 same-length-3 : tie.Need-same-length-3
 same-length-3 c = search needs
@@ -105,7 +105,7 @@ carry-out-spec =
     (tie.spec
     judge-requires
     enum-told
-    report-attention-requires
+    report-requires
     enum-told-2
     conflict-requires
     enum-known-at

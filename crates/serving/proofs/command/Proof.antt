@@ -9,7 +9,7 @@ use Rattle.rules.proofs.Ladder.{yes, no}
 use Rattle.rules.proofs.Rungs.{ends-as}
 use Rattle.rules.proofs.Soundness.{within-low, within-high}
 use Rattle.operation.proofs.Lengths.{some}
-use Rattle.steps.proofs.Supply.{suited}
+use Rattle.acts.proofs.Supply.{suited}
 use Rattle.serving.proofs.Ends.{number-ends, fitting, fit-is, steps-are, command-is}
 use borrow.Author.Needs.{needs}
 use Rattle.serving.proofs.command.Statement.{statement}

@@ -18,8 +18,8 @@ judge-requires c κs =
 enum-told : tie.Need-enum-told
 enum-told c = search needs
 
-report-attention-requires : tie.Need-report-attention-requires
-report-attention-requires c κs =
+report-requires : tie.Need-report-requires
+report-requires c κs =
     let told = c .before in
     let judged = told .before .before in
     let taken = judged .before .before in
@@ -52,8 +52,8 @@ refuse-requires c κs =
 enum-told-3 : tie.Need-enum-told-3
 enum-told-3 c = search needs
 
-command-requires : tie.Need-command-requires
-command-requires c κs =
+act-requires : tie.Need-act-requires
+act-requires c κs =
     let told = c .before .before .before .before in
     let judged = told .before .before in
     let taken = judged .before .before in
@@ -71,7 +71,7 @@ returns c =
     let called = c .before .before in
     let told = called .before .before in
     let judged = told .before .before in
-    ends-as _ _ (called .report-attention .ensures _ _ _ _) (pending-ends _ (lent _ _ _) _ _ _ _ _ (judged .judge .ensures) (told .enum-told .given .1))
+    ends-as _ _ (called .report .ensures _ _ _ _) (pending-ends _ (lent _ _ _) _ _ _ _ _ (judged .judge .ensures) (told .enum-told .given .1))
 
 same-length-3 : tie.Need-same-length-3
 same-length-3 c = search needs
@@ -117,7 +117,7 @@ returns-4 c =
     let called = c .before .before .before .before .before .before .before .before in
     let told = called .before .before .before .before .before in
     let judged = told .before .before in
-    ends-as _ _ (called .command .ensures) (open-ends _ (lent _ _ _) _ _ _ _ _ (judged .judge .ensures) (told .enum-told3 .given .1))
+    ends-as _ _ (called .act .ensures) (open-ends _ (lent _ _ _) _ _ _ _ _ (judged .judge .ensures) (told .enum-told3 .given .1))
 
 pub steps-spec : {M : Type 1} → statement M
 steps-spec =
@@ -125,13 +125,13 @@ steps-spec =
     (tie.spec
     judge-requires
     enum-told
-    report-attention-requires
+    report-requires
     enum-told-2
     conflict-requires
     enum-known-at
     refuse-requires
     enum-told-3
-    command-requires
+    act-requires
     same-length
     same-length-2
     returns

@@ -5,7 +5,7 @@ use mathlib.Core.List.{[]}
 use Rattle.rules.specs.Tables.{lent, others}
 use Rattle.rules.specs.Events.{resetting}
 use Rattle.rules.proofs.Ladder.{no}
-use Rattle.steps.proofs.Supply.{head-room}
+use Rattle.acts.proofs.Supply.{head-room}
 use Rattle.serving.proofs.Supply.{search-room}
 use Rattle.serving.proofs.Ends.{number-ends, reset-is}
 use borrow.Author.Needs.{needs}

@@ -1,4 +1,4 @@
--- `steps::command` meets its contract. Assumes nothing.
+-- `acts::act` meets its contract. Assumes nothing.
 use mathlib.Core.Path.{refl, sym, _∙_}
 use mathlib.Core.List.{[]}
 use Rattle.rules.specs.Tables.{lent, others, bare}
@@ -9,11 +9,11 @@ use Rattle.rules.proofs.Pages.{answered}
 use Rattle.order.specs.Ending.{reason}
 use Rattle.operation.specs.Meaning.{meaning}
 use Rattle.operation.proofs.Lengths.{sized}
-use Rattle.steps.proofs.Supply.{findable}
-use Rattle.steps.proofs.Ends.{acts}
+use Rattle.acts.proofs.Supply.{findable}
+use Rattle.acts.proofs.Chosen.{acts}
 use borrow.Author.Needs.{needs}
-use Rattle.steps.proofs.command.Statement.{statement}
-use Rattle.steps.proofs.command.Tie as tie
+use Rattle.acts.proofs.act.Statement.{statement}
+use Rattle.acts.proofs.act.Tie as tie
 
 enum-told : tie.Need-enum-told
 enum-told c = search needs
@@ -325,8 +325,8 @@ returns-12 c =
     let chosen = called .before .before in
     ends-as _ _ (called .refuse .ensures _ _ _) (sym (refused-fits (lent [] [] bare) _ [] _ _) ∙ acts _ _ (chosen .enum-told12 .given .1) _ _ _ _ _)
 
-pub command-spec : {M : Type 1} → statement M
-command-spec =
+pub act-spec : {M : Type 1} → statement M
+act-spec =
     tie.close
     (tie.spec
     enum-told

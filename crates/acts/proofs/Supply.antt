@@ -19,7 +19,7 @@ use Rattle.pages.specs.Pages.{stock}
 use Rattle.finding.specs.Findable.{Findable, Countable}
 use Rattle.listing.specs.Counting.{Listable}
 use Rattle.listing.proofs.Ends.{readable}
-use Rattle.steps.specs.Suited.{Suited}
+use Rattle.acts.specs.Suited.{Suited}
 
 -- no search, and none that is sound, has come past the last address
 near : (search : List ℕ) → searchSound search ≡ true → nextAddress search ≤ behindLast

@@ -1,12 +1,12 @@
--- `steps::report_attention` meets its contract. Assumes nothing.
+-- `sense::attention::report` meets its contract. Assumes nothing.
 use Rattle.rules.specs.Choice.{when}
 use Rattle.rules.specs.Bytes.{put}
 use Rattle.rules.specs.Tables.{changes, change, inHead}
 use Rattle.rules.specs.Order.{outcome, afterAttention}
 use borrow.Author.Tests.{ne-eqb}
 use borrow.Author.Needs.{needs}
-use Rattle.steps.proofs.report_attention.Statement.{statement}
-use Rattle.steps.proofs.report_attention.Tie as tie
+use Rattle.sense.proofs.attention.report.Statement.{statement}
+use Rattle.sense.proofs.attention.report.Tie as tie
 
 attention-requires : tie.Need-attention-requires
 attention-requires c κs = search needs
@@ -36,8 +36,8 @@ returns c =
     let began = first .before .before .before in
     λ elements rest buffer later. rw (ne-eqb _ _ (began .pre .1 .1), c .told .ensures, cleared .attend .ensures, noted .note .ensures, codes .attentionq .ensures, first .attention .ensures)
 
-pub report-attention-spec : {M : Type 1} → statement M
-report-attention-spec =
+pub report-spec : {M : Type 1} → statement M
+report-spec =
     tie.close
     (tie.spec
     attention-requires
