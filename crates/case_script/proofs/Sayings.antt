@@ -1,10 +1,13 @@
 -- Laws of lines, one for each way out of a function that reads them. Assumes nothing.
 use Prim.Native.Nat.{ℕ, _<_, _≤_}
+use Prim.Native.Char.{code}
 use mathlib.Core.Path.{_≡_, refl, sym, ap, _∙_}
 use mathlib.Core.List.{List}
 use mathlib.Core.Bool.{Bool, true, false}
 use lib.ListN.{length}
-use Rattle.rules.proofs.Ladder.{yes, no, eq-is, eq-not, lt-is, lt-not}
+use lib.Dec.{eqb}
+use Rattle.rules.specs.Choice.{when}
+use Rattle.rules.proofs.Ladder.{yes, no, eq-is, eq-not, eq-yes, eq-no, lt-is, lt-not}
 use Rattle.case_text.specs.declared.number.Number.{Number}
 use Rattle.case_text.specs.declared.number.Number.the-variants.{Is, Bad}
 use Rattle.case_text.specs.declared.bytes.Bytes.{Bytes}
@@ -19,8 +22,8 @@ use Rattle.case_text.specs.Text.{letters, wordStart, wordEnd, between, sameWord
 use Rattle.case_text.specs.Numbers.{numberOf}
 use Rattle.case_text.specs.Bytes.{Given, Filled, onto}
 use Rattle.case_script.specs.Names.{lastWord, codeOf, shapeOf, canBeSet}
-use Rattle.case_script.specs.Lines.{saying, bareWord, finished, named, nameRead, tabled, tablesRead, took, takenAt, afterNumber, Read, said}
-use Rattle.case_script.specs.Lines.{counted, filled, manyBytes, exactly, bytesAfter, numberAndBytes, shaped, rest, afterSet, setRead, fromWord, textRead, Within}
+use Rattle.case_script.specs.Lines.{saying, bareWord, finished, named, nameRead, tablesNamed, tabled, tablesRead, took, takenAt, afterNumber, oneNumber, twoNumbers, Read, said}
+use Rattle.case_script.specs.Lines.{counted, filled, manyBytes, logRead, exactly, bytesAfter, numberAndBytes, shaped, rest, afterSet, setRead, fromWord, textRead, Within}
 
 -- ---- the end of a line
 
@@ -34,6 +37,13 @@ module _ (s : List ℕ) (at from : ℕ) (starts : from ≡ wordStart s at) (l : 
   all-said h x e = rw (sym starts) (lt-not _ _ _ _ _ h (ap Says e))
 
 -- ---- names
+
+-- the word that a name of tables means, and what it leads to
+by-name : (a b : Bool) (f : ℕ → Reading) (z : Reading) → when (eqb (when a 2 (when b 3 0)) 0) z (f (when a 2 (when b 3 0))) ≡ when a (f 2) (when b (f 3) z)
+unfolding when
+by-name true b f z = refl
+by-name false true f z = refl
+by-name false false f z = refl
 
 module _ (s : List ℕ) (l : Line) (from : ℕ) (starts : from ≡ wordStart s (l .to)) where
   pub name-missing : from ≡ length s → Fault nameMissing from ≡ nameRead s l
@@ -49,19 +59,18 @@ module _ (s : List ℕ) (l : Line) (from : ℕ) (starts : from ≡ wordStart s (
     unfolding nameRead named
     name-read x e r d = rw (sym starts, sym ends) (eq-not _ _ _ _ _ some (rw e at d))
 
-    module _ (t : Bool) (small : t ≡ sameWord (between s from to) (letters "small")) where
-      pub tables-small : t ≡ true → (x : Line) → x ≡ bareWord (l .set) 2 (l .from) (l .to) → (r : Reading) → r ≡ finished s to x 0 0 → r ≡ tablesRead s l
-      unfolding tablesRead tabled
-      tables-small q x e r d = rw (sym starts, sym ends) (eq-not _ _ _ _ _ some (yes _ _ _ _ _ small q (rw e at d)))
+    -- the name goes by the word that it means
+    tables-by : when (eqb (tablesNamed (between s from to)) 0) (Fault notTables from) (finished s to (bareWord (l .set) (tablesNamed (between s from to)) (l .from) (l .to)) 0 0)
+        ≡ tablesRead s l
+    unfolding tablesRead tabled tablesNamed
+    tables-by = rw (sym starts, sym ends) (eq-not _ _ _ _ _ some (by-name _ _ (λ k. finished s to (bareWord (l .set) k (l .from) (l .to)) 0 0) _))
 
-      module _ (q : t ≡ false) (u : Bool) (empty : u ≡ sameWord (between s from to) (letters "empty")) where
-        pub tables-empty : u ≡ true → (x : Line) → x ≡ bareWord (l .set) 3 (l .from) (l .to) → (r : Reading) → r ≡ finished s to x 0 0 → r ≡ tablesRead s l
-        unfolding tablesRead tabled
-        tables-empty v x e r d = rw (sym starts, sym ends) (eq-not _ _ _ _ _ some (no _ _ _ _ _ small q (yes _ _ _ _ _ empty v (rw e at d))))
+    module _ (word : ℕ) (is : word ≡ tablesNamed (between s from to)) where
+      pub no-tables : word ≡ 0 → Fault notTables from ≡ tablesRead s l
+      no-tables e = eq-yes _ _ _ _ _ _ is e refl ∙ tables-by
 
-        pub no-tables : u ≡ false → Fault notTables from ≡ tablesRead s l
-        unfolding tablesRead tabled
-        no-tables v = rw (sym starts, sym ends) (eq-not _ _ _ _ _ some (no _ _ _ _ _ small q (no _ _ _ _ _ empty v refl)))
+      pub tables-read : (word ≡ 0 → ⊥) → (x : Line) → x ≡ bareWord (l .set) word (l .from) (l .to) → (r : Reading) → r ≡ finished s to x 0 0 → r ≡ tablesRead s l
+      tables-read known x e r d = eq-no _ _ _ _ _ _ is known (rw (e, is) at d) ∙ tables-by
 
 -- ---- numbers
 
@@ -147,6 +156,48 @@ module _ (s : List ℕ) (from : ℕ) (starts : from ≡ wordStart s 0) (buffer :
       unfolding textRead fromWord
       text-said n x e o d = rw (sym starts, sym ends, sym is) (eq-not _ _ _ _ _ some (no _ _ _ _ _ sets q (eq-not _ _ _ _ _ n (rw e at d))))
 
-pub by-shape : (s : List ℕ) (l : Line) (buffer : List ℕ) (shape : ℕ) → shape ≡ shapeOf (l .word) → (o : Read) → o ≡ shaped s shape l buffer → o ≡ rest s l buffer
-unfolding rest
-by-shape s l buffer shape e o d = rw e at d
+-- ---- what belongs to a word, by its shape
+
+module _ (s : List ℕ) (l : Line) (buffer : List ℕ) (shape : ℕ) (is : shape ≡ shapeOf (l .word)) where
+  by-shape : (o : Read) → o ≡ shaped s shape l buffer → o ≡ rest s l buffer
+  unfolding rest
+  by-shape o d = rw is at d
+
+  pub shape-name : shape ≡ code "w" → (r : Reading) → r ≡ nameRead s l → said buffer r ≡ rest s l buffer
+  unfolding shaped
+  shape-name e r d = by-shape _ (eq-is _ _ _ _ _ e (ap (said buffer) d))
+
+  module _ (not-name : shape ≡ code "w" → ⊥) where
+    pub shape-tables : shape ≡ code "t" → (r : Reading) → r ≡ tablesRead s l → said buffer r ≡ rest s l buffer
+    unfolding shaped
+    shape-tables e r d = by-shape _ (eq-not _ _ _ _ _ not-name (eq-is _ _ _ _ _ e (ap (said buffer) d)))
+
+    module _ (not-tables : shape ≡ code "t" → ⊥) where
+      pub shape-nothing : shape ≡ code "0" → (r : Reading) → r ≡ finished s (l .to) l 0 0 → said buffer r ≡ rest s l buffer
+      unfolding shaped
+      shape-nothing e r d = by-shape _ (eq-not _ _ _ _ _ not-name (eq-not _ _ _ _ _ not-tables (eq-is _ _ _ _ _ e (ap (said buffer) d))))
+
+      module _ (not-nothing : shape ≡ code "0" → ⊥) where
+        pub shape-one : shape ≡ code "1" → (r : Reading) → r ≡ oneNumber s l → said buffer r ≡ rest s l buffer
+        unfolding shaped
+        shape-one e r d = by-shape _ (eq-not _ _ _ _ _ not-name (eq-not _ _ _ _ _ not-tables (eq-not _ _ _ _ _ not-nothing (eq-is _ _ _ _ _ e (ap (said buffer) d)))))
+
+        module _ (not-one : shape ≡ code "1" → ⊥) where
+          pub shape-two : shape ≡ code "2" → (r : Reading) → r ≡ twoNumbers s l → said buffer r ≡ rest s l buffer
+          unfolding shaped
+          shape-two e r d = by-shape _ (eq-not _ _ _ _ _ not-name (eq-not _ _ _ _ _ not-tables (eq-not _ _ _ _ _ not-nothing (eq-not _ _ _ _ _ not-one (eq-is _ _ _ _ _ e (ap (said buffer) d))))))
+
+          module _ (not-two : shape ≡ code "2" → ⊥) where
+            pub shape-bytes : shape ≡ code "b" → (o : Read) → o ≡ manyBytes s (l .to) l 0 buffer → o ≡ rest s l buffer
+            unfolding shaped
+            shape-bytes e o d = by-shape _ (eq-not _ _ _ _ _ not-name (eq-not _ _ _ _ _ not-tables (eq-not _ _ _ _ _ not-nothing (eq-not _ _ _ _ _ not-one (eq-not _ _ _ _ _ not-two (eq-is _ _ _ _ _ e d))))))
+
+            module _ (not-bytes : shape ≡ code "b" → ⊥) where
+              pub shape-text : shape ≡ code "x" → (o : Read) → o ≡ logRead s l buffer → o ≡ rest s l buffer
+              unfolding shaped
+              shape-text e o d = by-shape _ (eq-not _ _ _ _ _ not-name (eq-not _ _ _ _ _ not-tables (eq-not _ _ _ _ _ not-nothing (eq-not _ _ _ _ _ not-one (eq-not _ _ _ _ _ not-two (eq-not _ _ _ _ _ not-bytes (eq-is _ _ _ _ _ e d)))))))
+
+              module _ (not-text : shape ≡ code "x" → ⊥) where
+                pub shape-number-bytes : (o : Read) → o ≡ numberAndBytes s shape l buffer → o ≡ rest s l buffer
+                unfolding shaped
+                shape-number-bytes o d = by-shape _ (eq-not _ _ _ _ _ not-name (eq-not _ _ _ _ _ not-tables (eq-not _ _ _ _ _ not-nothing (eq-not _ _ _ _ _ not-one (eq-not _ _ _ _ _ not-two (eq-not _ _ _ _ _ not-bytes (eq-not _ _ _ _ _ not-text d)))))))

@@ -43,6 +43,10 @@ named s l from to = when (eqb from (length s)) (Fault nameMissing from) (finishe
 unfoldable pub nameRead : List ℕ → Line → Reading
 nameRead s l = named s l (wordStart s (l .to)) (wordEnd s (wordStart s (l .to)))
 
+-- the word for the tables that a name means, or 0
+unfoldable pub tablesNamed : List ℕ → ℕ
+tablesNamed name = when (sameWord name (letters "small")) 2 (when (sameWord name (letters "empty")) 3 0)
+
 -- `tables NAME`
 unfoldable pub tabled : List ℕ → Line → ℕ → ℕ → Reading
 tabled s l from to =

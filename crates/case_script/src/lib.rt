@@ -15,7 +15,7 @@ ghost use mathlib.Core.Path.{_≡_};
 ghost use Prim.Native.Nat.{_≤_};
 ghost use lib.ListN.{length};
 ghost use Rattle.case_script.specs.Names.{lastWord};
-ghost use Rattle.case_script.specs.Lines.{saying, bareWord, finished, nameRead, tablesRead, takenAt, Within, oneNumber, secondNumber, twoNumbers};
+ghost use Rattle.case_script.specs.Lines.{saying, bareWord, finished, nameRead, tablesNamed, tablesRead, takenAt, Within, oneNumber, secondNumber, twoNumbers};
 ghost use Rattle.case_script.specs.Lines.{counted as countedOf, manyBytes, behindBlank, logRead, wrongCount, exactly, numberAndBytes, rest};
 ghost use Rattle.case_script.specs.Lines.{setRead, textRead, uncommented as uncommentedOf, lineRead, Inside};
 
@@ -85,10 +85,11 @@ fn read_text(text: &[u8], bytes: &mut [u8]) -> Reading
         return Reading::Blank;
     }
     let to = find(text, from, GAP);
-    if same(&text[from..to], b"set") {
+    let first = &text[from..to];
+    if same(first, b"set") {
         return read_set(text, to, bytes);
     }
-    let word = name::code(&text[from..to]);
+    let word = name::code(first);
     if word == 0 {
         return Reading::Fault(fault::UNKNOWN_WORD, from);
     }
@@ -207,25 +208,24 @@ fn read_tables(text: &[u8], line: Line) -> Reading
         return Reading::Fault(fault::NAME_MISSING, from);
     }
     let to = find(text, from, GAP);
-    if same(&text[from..to], b"small") {
-        return finish(
-            text,
-            to,
-            bare(line.set, word::TABLES_SMALL, line.from, line.to),
-            0,
-            0,
-        );
+    let word = tables_named(&text[from..to]);
+    if word == 0 {
+        return Reading::Fault(fault::NOT_TABLES, from);
     }
-    if same(&text[from..to], b"empty") {
-        return finish(
-            text,
-            to,
-            bare(line.set, word::TABLES_EMPTY, line.from, line.to),
-            0,
-            0,
-        );
+    finish(text, to, bare(line.set, word, line.from, line.to), 0, 0)
+}
+
+// The word for the tables that a name means, or 0.
+fn tables_named(name: &[u8]) -> u8
+    ensures { λ r. ⌜ r ≡ tablesNamed (now (name .entry)) ⌝ }
+{
+    if same(name, b"small") {
+        return word::TABLES_SMALL;
     }
-    Reading::Fault(fault::NOT_TABLES, from)
+    if same(name, b"empty") {
+        return word::TABLES_EMPTY;
+    }
+    0
 }
 
 // The number in the next word.

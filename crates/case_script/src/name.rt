@@ -6,7 +6,7 @@ use case_text::find;
 use case_text::same;
 ghost use mathlib.Core.Path.{_≡_};
 ghost use Prim.Native.Nat.{_≤_};
-ghost use Rattle.case_script.specs.Names.{lastWord, placeFrom, codeOf, shapeOf, canBeSet, settable as settableOf};
+ghost use Rattle.case_script.specs.Names.{lastWord, placeFrom, codeOf, shapeOf, canBeSet};
 
 // In the order of their numbers; `#`, which no word holds, has the place of the number that `tables` has a second time.
 const NAMES: [u8; 415] = *b"\
@@ -78,9 +78,10 @@ pub fn shape(word: u8) -> u8
 }
 
 // "Words that can be set", by their class
-fn settable(class: u8) -> bool
-    ensures { λ r. ⌜ r ≡ settableOf class ⌝ }
+pub fn can_be_set(word: u8) -> bool
+    ensures { λ r. ⌜ r ≡ canBeSet word ⌝ }
 {
+    let class = class::of(word);
     if class == class::ELEMENT {
         return true;
     }
@@ -91,10 +92,4 @@ fn settable(class: u8) -> bool
         return true;
     }
     class == class::TABLE
-}
-
-pub fn can_be_set(word: u8) -> bool
-    ensures { λ r. ⌜ r ≡ canBeSet word ⌝ }
-{
-    settable(class::of(word))
 }

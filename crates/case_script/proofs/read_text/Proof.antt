@@ -14,14 +14,14 @@ returns c = text-blank _ _ (c .before .find .ensures .0) _ (c .if1 .taken)
 find-requires-2 : tie.Need-find-requires-2
 find-requires-2 c κs = search needs
 
-sub-same : tie.Need-sub-same
-sub-same c = search needs
+sub-first : tie.Need-sub-first
+sub-first c = search needs
 
-part-same-start : tie.Need-part-same-start
-part-same-start c = search needs
+part-first-start : tie.Need-part-first-start
+part-first-start c = search needs
 
-part-same-end : tie.Need-part-same-end
-part-same-end c = search needs
+part-first-end : tie.Need-part-first-end
+part-first-end c = search needs
 
 slice-aggregate-same : tie.Need-slice-aggregate-same
 slice-aggregate-same c = search needs
@@ -46,15 +46,6 @@ returns-2 c =
     let find = no1 .before in
     text-set _ _ (find .find .ensures .0) _ (no1 .if1 .left) _ (find2 .find2 .ensures .0) _ (same .same .ensures) (yes2 .if2 .taken) _ (read-set .read-set .ensures)
 
-sub-code : tie.Need-sub-code
-sub-code c = search needs
-
-part-code-start : tie.Need-part-code-start
-part-code-start c = search needs
-
-part-code-end : tie.Need-part-code-end
-part-code-end c = search needs
-
 code-requires : tie.Need-code-requires
 code-requires c κs = search needs
 
@@ -62,7 +53,7 @@ returns-3 : tie.Need-returns-3
 unfolding letters
 returns-3 c =
     let code = c .before in
-    let no2 = code .before .before in
+    let no2 = code .before in
     let same = no2 .before in
     let find2 = same .before .before .before in
     let no1 = find2 .before in
@@ -76,7 +67,7 @@ read-rest-requires : tie.Need-read-rest-requires
 read-rest-requires c κs =
     let bare = c .before in
     let code = bare .before .before in
-    let find2 = code .before .before .before .before .before .before in
+    let find2 = code .before .before .before .before .before in
     bare-within _ _ _ _ _ _ (bare .bare .ensures) (code .code .ensures .1) (find2 .find2 .ensures .1 .1)
 
 same-length-2 : tie.Need-same-length-2
@@ -89,7 +80,7 @@ returns-4 c =
     let bare = read-rest .before .before in
     let no3 = bare .before in
     let code = no3 .before in
-    let no2 = code .before .before in
+    let no2 = code .before in
     let same = no2 .before in
     let find2 = same .before .before .before in
     let no1 = find2 .before in
@@ -103,17 +94,14 @@ read-text-spec =
     find-requires
     returns
     find-requires-2
-    sub-same
-    part-same-start
-    part-same-end
+    sub-first
+    part-first-start
+    part-first-end
     slice-aggregate-same
     same-requires
     read-set-requires
     same-length
     returns-2
-    sub-code
-    part-code-start
-    part-code-end
     code-requires
     returns-3
     bare-requires
