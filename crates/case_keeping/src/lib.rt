@@ -14,7 +14,7 @@ ghost use mathlib.Core.Path.{_≡_};
 ghost use Rattle.case_rooms.specs.Alike.{pastCount};
 
 // "the bytes past the count are still EEh"
-pub fn past(answer: &[u8], count: u32) -> Finding
+fn past(answer: &[u8], count: u32) -> Finding
     ensures { λ r. ⌜ r ≡ pastCount (now (answer .entry)) count ⌝ }
 {
     let rest = case_rooms::part(answer, count as usize, answer.len());
@@ -31,7 +31,7 @@ pub fn past(answer: &[u8], count: u32) -> Finding
 }
 
 // The state after a call: the parameters were "of the next command alone".
-pub fn after(state: State, what: u8, reply: Reply) -> State {
+fn after(state: State, what: u8, reply: Reply) -> State {
     let mut s = state;
     if what == word::COMMAND {
         s.parameters = 0;
@@ -57,8 +57,8 @@ fn gone_on(log: Log, from: usize, ended: Replayed) -> Log {
     }
 }
 
-// The state after a replay from the place `from` of the log on.
-pub fn after_replay(state: State, from: usize, ended: Replayed) -> State {
+// Behind a replay from the place `from` of the log on.
+pub fn replayed(state: State, from: usize, ended: Replayed) -> Effect {
     let mut s = state;
     let before = state.log;
     let log = gone_on(before, from, ended);
@@ -68,14 +68,34 @@ pub fn after_replay(state: State, from: usize, ended: Replayed) -> State {
     s.kept = sizes;
     s.replayed = true;
     s.ended = ended;
-    s
+    case_rooms::done(s)
 }
 
 // The tables that a call writes as they are before it, for `kept`.
-pub fn keep(room: &mut [u8], head: &[u8], elements: &[u8], search: &[u8]) {
+fn keep(room: &mut [u8], head: &[u8], elements: &[u8], search: &[u8]) {
     case_rooms::write(room, parts::KEPT_HEAD_AT, head);
     case_rooms::write(room, parts::KEPT_ELEMENTS_AT, elements);
     case_rooms::write(room, parts::KEPT_SEARCH_AT, search);
+}
+
+// Copies of the tables that a call writes, as they are before it.
+pub fn lend(room: &mut [u8], head: &mut [u8], elements: &mut [u8], search: &mut [u8]) {
+    case_rooms::write(
+        head,
+        0,
+        case_rooms::part(room, parts::HEAD_AT, parts::HEAD_MOST),
+    );
+    case_rooms::write(
+        elements,
+        0,
+        case_rooms::part(room, parts::ELEMENTS_AT, parts::ELEMENTS_MOST),
+    );
+    case_rooms::write(
+        search,
+        0,
+        case_rooms::part(room, parts::SEARCH_AT, parts::SEARCH_MOST),
+    );
+    keep(room, head, elements, search);
 }
 
 // Head, elements and search as a call left them.
@@ -97,13 +117,14 @@ pub fn take_back(state: State, room: &mut [u8], head: &[u8], elements: &[u8], se
     );
 }
 
-// The answer buffer as a call left it.
-pub fn take_answer(state: State, room: &mut [u8], answer: &[u8]) {
-    case_rooms::write(
-        room,
-        parts::ANSWER_AT,
-        case_rooms::part(answer, 0, state.buffer),
-    );
+// Behind a call: its answer buffer as it left it, and what it has come to.
+pub fn answered(state: State, what: u8, reply: Reply, room: &mut [u8], answer: &[u8]) -> Effect {
+    let lent = case_rooms::part(answer, 0, state.buffer);
+    case_rooms::write(room, parts::ANSWER_AT, lent);
+    Effect {
+        state: after(state, what, reply),
+        finding: past(lent, reply.count),
+    }
 }
 
 // "the host of the commands that follow"; "the length of the answer buffer of the commands that follow"

@@ -15,10 +15,10 @@ pub struct Progress {
     pub state: State,
 }
 
-// A file begins.
+// A file begins, behind those that the run has counted.
 pub fn first(run: Run) -> Progress {
     Progress {
-        run,
+        run: case_telling::start(run.passed, run.failed),
         state: case_rooms::fresh(),
     }
 }

@@ -7,11 +7,43 @@ use case_script::fault;
 use case_script::word;
 use replay::Replayed;
 ghost use mathlib.Core.Path.{_≡_};
+ghost use Rattle.rules.specs.Tables.{lent};
 ghost use Rattle.rules.specs.Replay.{replay as replayOf};
 ghost use Rattle.replay.specs.Ended.{ended};
-ghost use Rattle.case_rooms.specs.Lying.{lying, logFrom};
+ghost use Rattle.case_rooms.specs.Lying.{lying, around, logFrom};
 
-// The call on the parts of the rooms that the state says, with the log from the place `at` on.
+// The replay on head, elements and search as they are lent, and on the parts of the room that the state says, with the log from the place `at` on.
+fn entered(
+    state: State,
+    at: usize,
+    expected: u32,
+    budget: u32,
+    head: &mut [u8],
+    elements: &mut [u8],
+    room: &[u8],
+    search: &mut [u8],
+) -> Replayed
+    ensures { λ r. ⌜ ended r (lent (now (head .exit)) (now (elements .exit)) (around state (now (room .entry)) (now (search .exit))))
+        ≡ replayOf (lent (now (head .entry)) (now (elements .entry)) (around state (now (room .entry)) (now (search .entry)))) (logFrom state at (now (room .entry))) expected budget ⌝ }
+{
+    let sizes = state.sizes;
+    let log = state.log;
+    let whole = case_rooms::part(room, parts::LOG_AT, log.length);
+    entry_panel::smc_replay(
+        head,
+        elements,
+        case_rooms::part(room, parts::TAGS_AT, sizes[parts::TAGS]),
+        case_rooms::part(room, parts::BLANK_AT, sizes[parts::BLANK]),
+        case_rooms::part(room, parts::GENERATIONS_AT, sizes[parts::GENERATIONS]),
+        case_rooms::part(room, parts::MASKS_AT, sizes[parts::MASKS]),
+        search,
+        case_rooms::part(whole, at, whole.len()),
+        expected,
+        budget,
+    )
+}
+
+// The replay on as much of the copies as the state says.
 fn made(
     state: State,
     at: usize,
@@ -26,22 +58,18 @@ fn made(
         ≡ replayOf (lying state (now (head .entry)) (now (elements .entry)) (now (room .entry)) (now (search .entry))) (logFrom state at (now (room .entry))) expected budget ⌝ }
 {
     let sizes = state.sizes;
-    let log = state.log;
     let h = case_rooms::least(sizes[parts::HEAD], head.len());
     let e = case_rooms::least(sizes[parts::ELEMENTS], elements.len());
     let s = case_rooms::least(sizes[parts::SEARCH], search.len());
-    let whole = case_rooms::part(room, parts::LOG_AT, log.length);
-    entry_panel::smc_replay(
-        &mut head[0..h],
-        &mut elements[0..e],
-        case_rooms::part(room, parts::TAGS_AT, sizes[parts::TAGS]),
-        case_rooms::part(room, parts::BLANK_AT, sizes[parts::BLANK]),
-        case_rooms::part(room, parts::GENERATIONS_AT, sizes[parts::GENERATIONS]),
-        case_rooms::part(room, parts::MASKS_AT, sizes[parts::MASKS]),
-        &mut search[0..s],
-        case_rooms::part(whole, at, whole.len()),
+    entered(
+        state,
+        at,
         expected,
         budget,
+        &mut head[0..h],
+        &mut elements[0..e],
+        room,
+        &mut search[0..s],
     )
 }
 
@@ -57,27 +85,12 @@ fn noted(r: Replayed) -> case_rooms::Replayed
     }
 }
 
-// The core changes head, elements and search while it reads the rest, so that these three are lent to it as copies.
-fn run(state: State, at: usize, expected: u32, budget: u32, room: &mut [u8]) -> Effect {
+// The core changes head, elements and search while it reads the rest, so that it is lent copies of these three.
+fn on_copies(state: State, at: usize, expected: u32, budget: u32, room: &mut [u8]) -> Replayed {
     let mut head = [0u8; parts::HEAD_MOST];
     let mut elements = [0u8; parts::ELEMENTS_MOST];
     let mut search = [0u8; parts::SEARCH_MOST];
-    case_rooms::write(
-        &mut head,
-        0,
-        case_rooms::part(room, parts::HEAD_AT, parts::HEAD_MOST),
-    );
-    case_rooms::write(
-        &mut elements,
-        0,
-        case_rooms::part(room, parts::ELEMENTS_AT, parts::ELEMENTS_MOST),
-    );
-    case_rooms::write(
-        &mut search,
-        0,
-        case_rooms::part(room, parts::SEARCH_AT, parts::SEARCH_MOST),
-    );
-    case_keeping::keep(room, &head, &elements, &search);
+    case_keeping::lend(room, &mut head, &mut elements, &mut search);
     let ended = made(
         state,
         at,
@@ -89,7 +102,13 @@ fn run(state: State, at: usize, expected: u32, budget: u32, room: &mut [u8]) -> 
         &mut search,
     );
     case_keeping::take_back(state, room, &head, &elements, &search);
-    case_rooms::done(case_keeping::after_replay(state, at, noted(ended)))
+    ended
+}
+
+// The replay from the place `at` on.
+fn run(state: State, at: usize, expected: u32, budget: u32, room: &mut [u8]) -> Effect {
+    let ended = on_copies(state, at, expected, budget, room);
+    case_keeping::replayed(state, at, noted(ended))
 }
 
 // "the whole log, from its beginning", or "from where the last ended"

@@ -1,9 +1,9 @@
--- `cases::file_room`: by the law of a repeat's length, since a million elements are too many to count. Assumes nothing.
+-- `case_reading::file_room`: by the law of a repeat's length, since a million elements are too many to count. Assumes nothing.
 use Prim.Native.Nat.{ℕ}
 use mathlib.Core.Path.{_≡_, sym}
 use lib.ListN.{length, replicate, length-replicate}
-use Rattle.cases.proofs.file_room.Statement.{statement}
-use Rattle.cases.proofs.file_room.Tie as tie
+use Rattle.case_reading.proofs.file_room.Statement.{statement}
+use Rattle.case_reading.proofs.file_room.Tie as tie
 
 as-many : (n : ℕ) → n ≡ length (replicate {A = ℕ} n 0)
 as-many n = sym (length-replicate n 0)
