@@ -1,8 +1,8 @@
--- A call on parts of a room, and on the fronts of copies, which are lent and come back. Assumes nothing.
+-- A call on the fronts of copies, which are lent and come back. Assumes nothing.
 use Prim.Native.Nat.{ℕ}
 use mathlib.Core.Path.{_≡_}
 use mathlib.Core.List.{List}
-use lib.ListN.{length, replicate}
+use lib.ListN.{length}
 use Rattle.rules.specs.Tables.{lent, others}
 use Rattle.order.specs.declared.Reply.{Reply}
 use Rattle.order.specs.Ending.{ended}
@@ -11,14 +11,6 @@ use Rattle.case_rooms.specs.Alike.{untouched}
 
 -- the outcome of a call on what was lent is that of the call on what was meant
 module _ (w f s host : ℕ) (r : Reply) (block : List ℕ) where
-  pub on-parts : (n : ℕ) (head elements search answer h es ss filled tags tags′ blank blank′ generations generations′ masks masks′ ps ps′ : List ℕ)
-      → tags ≡ tags′ → blank ≡ blank′ → generations ≡ generations′ → masks ≡ masks′ → ps ≡ ps′ → filled ≡ replicate n 0xEE
-      → ended r (lent head elements (others tags blank generations masks search)) answer ≡ called w f s (lent h es (others tags blank generations masks ss)) host block ps filled
-      → ended r (lent head elements (others tags′ blank′ generations′ masks′ search)) answer
-      ≡ called w f s (lent h es (others tags′ blank′ generations′ masks′ ss)) host block ps′ (untouched n)
-  unfolding untouched
-  on-parts n head elements search answer h es ss filled tags tags′ blank blank′ generations generations′ masks masks′ ps ps′ a b c d e i j = cc
-
   pub on-fronts : (tags blank generations masks ps head head′ elements elements′ search search′ answer answer′ h h′ es es′ ss ss′ buffer buffer′ : List ℕ)
       → head′ ≡ head → elements′ ≡ elements → search′ ≡ search → answer′ ≡ answer → h ≡ h′ → es ≡ es′ → ss ≡ ss′ → buffer ≡ buffer′
       → ended r (lent head elements (others tags blank generations masks search)) answer

@@ -6,47 +6,11 @@ use case_script::Line;
 use order::Reply;
 ghost use mathlib.Core.Path.{_≡_};
 ghost use lib.ListN.{length, take};
-ghost use Rattle.rules.specs.Tables.{lent};
 ghost use Rattle.order.specs.Ending.{ended};
 ghost use Rattle.case_rooms.specs.Parts.{part as partOf, parametersAt};
 ghost use Rattle.case_rooms.specs.Alike.{untouched as untouchedOf};
-ghost use Rattle.case_rooms.specs.Lying.{lying, around};
+ghost use Rattle.case_rooms.specs.Lying.{lying};
 ghost use Rattle.case_entering.specs.Called.{called};
-
-// The call on head, elements and search as they are lent, and on the parts of the room that the state says, with an answer buffer full of EEh.
-fn entered(
-    state: State,
-    line: Line,
-    head: &mut [u8],
-    elements: &mut [u8],
-    room: &[u8],
-    search: &mut [u8],
-    answer: &mut [u8],
-    block: &[u8],
-) -> Reply
-    ensures { λ r. ⌜ ended r (lent (now (head .exit)) (now (elements .exit)) (around state (now (room .entry)) (now (search .exit)))) (now (answer .exit))
-        ≡ called (line .word) (line .first) (line .second) (lent (now (head .entry)) (now (elements .entry)) (around state (now (room .entry)) (now (search .entry)))) (state .host) (now (block .entry))
-        (partOf (now (room .entry)) parametersAt (state .parameters)) (untouchedOf (length (now (answer .entry)))) ⌝ }
-{
-    let sizes = state.sizes;
-    case_rooms::fill(answer, case_rooms::UNTOUCHED);
-    case_entering::enter(
-        line.word,
-        line.first,
-        line.second,
-        state.host,
-        head,
-        elements,
-        case_rooms::part(room, parts::TAGS_AT, sizes[parts::TAGS]),
-        case_rooms::part(room, parts::BLANK_AT, sizes[parts::BLANK]),
-        case_rooms::part(room, parts::GENERATIONS_AT, sizes[parts::GENERATIONS]),
-        case_rooms::part(room, parts::MASKS_AT, sizes[parts::MASKS]),
-        search,
-        block,
-        case_rooms::part(room, parts::PARAMETERS_AT, state.parameters),
-        answer,
-    )
-}
 
 // The call on as much of the copies, and with as long an answer buffer, as the state says.
 fn made(
@@ -68,7 +32,7 @@ fn made(
     let e = case_rooms::least(sizes[parts::ELEMENTS], elements.len());
     let s = case_rooms::least(sizes[parts::SEARCH], search.len());
     let b = case_rooms::least(state.buffer, answer.len());
-    entered(
+    case_entering::entered(
         state,
         line,
         &mut head[0..h],

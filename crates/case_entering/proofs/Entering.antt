@@ -1,14 +1,26 @@
--- An event, entered beside an answer buffer. Assumes nothing.
+-- An event, entered beside an answer buffer; and a call on parts of a room. Assumes nothing.
 use Prim.Native.Nat.{ℕ}
 use mathlib.Core.Path.{_≡_, ap}
 use mathlib.Core.List.{List, []}
-use Rattle.rules.specs.Tables.{Tables}
+use lib.ListN.{replicate}
+use Rattle.rules.specs.Tables.{Tables, lent, others}
 use Rattle.rules.specs.Order.{Outcome}
 use Rattle.order.specs.declared.Reply.{Reply}
 use Rattle.order.specs.Ending.{ended}
-use Rattle.case_entering.specs.Called.{beside}
+use Rattle.case_rooms.specs.Alike.{untouched}
+use Rattle.case_entering.specs.Called.{beside, called}
 
 -- an event is lent no answer buffer
 pub beside-it : (r : Reply) (t : Tables) (buffer : List ℕ) (o : Outcome) → ended r t [] ≡ o → ended r t buffer ≡ beside buffer o
 unfolding beside
 beside-it r t buffer o e = ap (beside buffer) e
+
+-- the outcome of a call on what was lent is that of the call on what was meant
+module _ (w f s host : ℕ) (r : Reply) (block : List ℕ) where
+  pub on-parts : (n : ℕ) (head elements search answer h es ss filled tags tags′ blank blank′ generations generations′ masks masks′ ps ps′ : List ℕ)
+      → tags ≡ tags′ → blank ≡ blank′ → generations ≡ generations′ → masks ≡ masks′ → ps ≡ ps′ → filled ≡ replicate n 0xEE
+      → ended r (lent head elements (others tags blank generations masks search)) answer ≡ called w f s (lent h es (others tags blank generations masks ss)) host block ps filled
+      → ended r (lent head elements (others tags′ blank′ generations′ masks′ search)) answer
+      ≡ called w f s (lent h es (others tags′ blank′ generations′ masks′ ss)) host block ps′ (untouched n)
+  unfolding untouched
+  on-parts n head elements search answer h es ss filled tags tags′ blank blank′ generations generations′ masks masks′ ps ps′ a b c d e i j = cc

@@ -1,10 +1,17 @@
 // How a case enters the core: by the entry that its line names. What that leaves is the rules' own outcome.
+use case_rooms::State;
+use case_rooms::parts;
+use case_script::Line;
 use case_script::word;
 use order::Reply;
 ghost use mathlib.Core.Path.{_≡_};
 ghost use mathlib.Core.List.{[]};
+ghost use lib.ListN.{length};
 ghost use Rattle.rules.specs.Tables.{lent, others};
 ghost use Rattle.order.specs.Ending.{ended};
+ghost use Rattle.case_rooms.specs.Parts.{part as partOf, parametersAt};
+ghost use Rattle.case_rooms.specs.Alike.{untouched as untouchedOf};
+ghost use Rattle.case_rooms.specs.Lying.{around};
 ghost use Rattle.case_entering.specs.Called.{event as eventOf, called};
 
 // The event that a line names, on the tables as they lie.
@@ -51,7 +58,7 @@ fn event<'a>(
 }
 
 // The call of the core that a line names, on the tables as they lie.
-pub fn enter<'a>(
+fn enter<'a>(
     what: u8,
     first: u32,
     second: u32,
@@ -95,5 +102,40 @@ pub fn enter<'a>(
         generations,
         masks,
         search,
+    )
+}
+
+// The call on head, elements and search as they are lent, and on the parts of the room that the state says, with an answer buffer full of EEh.
+pub fn entered(
+    state: State,
+    line: Line,
+    head: &mut [u8],
+    elements: &mut [u8],
+    room: &[u8],
+    search: &mut [u8],
+    answer: &mut [u8],
+    block: &[u8],
+) -> Reply
+    ensures { λ r. ⌜ ended r (lent (now (head .exit)) (now (elements .exit)) (around state (now (room .entry)) (now (search .exit)))) (now (answer .exit))
+        ≡ called (line .word) (line .first) (line .second) (lent (now (head .entry)) (now (elements .entry)) (around state (now (room .entry)) (now (search .entry)))) (state .host) (now (block .entry))
+        (partOf (now (room .entry)) parametersAt (state .parameters)) (untouchedOf (length (now (answer .entry)))) ⌝ }
+{
+    let sizes = state.sizes;
+    case_rooms::fill(answer, case_rooms::UNTOUCHED);
+    enter(
+        line.word,
+        line.first,
+        line.second,
+        state.host,
+        head,
+        elements,
+        case_rooms::part(room, parts::TAGS_AT, sizes[parts::TAGS]),
+        case_rooms::part(room, parts::BLANK_AT, sizes[parts::BLANK]),
+        case_rooms::part(room, parts::GENERATIONS_AT, sizes[parts::GENERATIONS]),
+        case_rooms::part(room, parts::MASKS_AT, sizes[parts::MASKS]),
+        search,
+        block,
+        case_rooms::part(room, parts::PARAMETERS_AT, state.parameters),
+        answer,
     )
 }

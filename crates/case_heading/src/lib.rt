@@ -5,11 +5,11 @@ use case_script::Line;
 use case_script::fault;
 use case_telling::Run;
 use heading::Heading;
-ghost use Prim.Native.Nat.{_≤_, _<_};
+ghost use Prim.Native.Nat.{_≤_, _<_, _+_};
 ghost use lib.ListN.{length};
 
 // Where the line that begins at a place ends.
-pub fn line_end(file: &[u8], at: usize) -> usize
+fn line_end(file: &[u8], at: usize) -> usize
     requires { ⌜ at < length (now file) ⌝ }
     ensures { λ r. ⌜ (at ≤ r) × (r ≤ length (now (file .entry))) ⌝ }
 {
@@ -21,6 +21,15 @@ pub fn line_end(file: &[u8], at: usize) -> usize
         i += 1;
     }
     i
+}
+
+// The line that begins at a place.
+pub fn line_at(file: &[u8], at: usize) -> &[u8]
+    requires { ⌜ at < length (now file) ⌝ }
+    ensures { λ r. ⌜ at + length (now r) ≤ length (now (file .entry)) ⌝ }
+{
+    let end = line_end(file, at);
+    &file[at..end]
 }
 
 pub fn is_one(line: &[u8]) -> bool {

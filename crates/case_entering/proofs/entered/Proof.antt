@@ -1,9 +1,9 @@
--- `case_calls::entered` meets its contract: the parts of the room are lent to the entry. Assumes nothing.
+-- `case_entering::entered` meets its contract: the parts of the room are lent to the entry. Assumes nothing.
 use mathlib.Core.Path.{_∙_}
-use Rattle.case_calls.proofs.Fronts.{on-parts}
+use Rattle.case_entering.proofs.Entering.{on-parts}
 use borrow.Author.Needs.{needs}
-use Rattle.case_calls.proofs.entered.Statement.{statement}
-use Rattle.case_calls.proofs.entered.Tie as tie
+use Rattle.case_entering.proofs.entered.Statement.{statement}
+use Rattle.case_entering.proofs.entered.Tie as tie
 
 fill-requires : tie.Need-fill-requires
 fill-requires c κs = tt
