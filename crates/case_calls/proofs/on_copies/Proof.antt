@@ -48,7 +48,10 @@ same-length c =
     taken .take-back .kept .1 .0 ∙ lend .lend .kept .0
 
 same-length-2 : tie.Need-same-length-2
-same-length-2 c = c .before .before .before .before .before .before .before .before .before .before .before .before .made .kept .1 .1 .1 .1 .1 .1 .0
+same-length-2 c =
+    let taken = c .before .before in
+    let made = taken .before .before .before .before .before .before .before .before .before .before in
+    made .made .kept .1 .1 .1 .1 .1 .1 .0
 
 returns : tie.Need-returns
 returns c = tt

@@ -50,7 +50,9 @@ same-length-3 c = c .before .before .before .before .before .before .before .bef
 same-length-4 : tie.Need-same-length-4
 same-length-4 c =
     let enter = c .before .before .before .before .before .before .before .before in
-    enter .enter .kept .1 .1 .1 .1 .1 .1 .1 .1 .1 .1 .1 .1 .1 .0 ∙ enter .before .before .before .before .before .before .before .before .before .before .before .before .fill .kept .0
+    let part = enter .before .before .before .before .before .before .before in
+    let fill = part .before .before .before .before .before in
+    enter .enter .kept .1 .1 .1 .1 .1 .1 .1 .1 .1 .1 .1 .1 .1 .0 ∙ fill .fill .kept .0
 
 returns : tie.Need-returns
 returns c =
