@@ -33,7 +33,7 @@ module _ (head elements : List ℕ) (rest : Rest) (s : sound (lent head elements
   pub records : length elements ≡ elementSize * length (roster head)
   records = elements-length (lent head elements rest) (sound-true (lent head elements rest) s)
 
-  pub suited : (runs : List Range) → Runs runs head → Suited runs head elements rest
+  pub suited : (runs : List Range) → Runs runs head → Suited runs head elements (rest .tags) (rest .blank) (rest .search)
   suited runs is =
       let f = sound-true (lent head elements rest) s in
       record {
@@ -59,9 +59,9 @@ few-runs : (runs : List Range) (head : List ℕ) → Runs runs head → length (
 unfolding roster
 few-runs runs head is few = rw is (omega (arith, spread-length 0 (sorted (ranges head))))
 
-module _ (runs : List Range) (head elements : List ℕ) (rest : Rest) (s : Suited runs head elements rest) where
+module _ (runs : List Range) (head elements tags blank search : List ℕ) (s : Suited runs head elements tags blank search) where
   pub findable : (host : ℕ) (block : List ℕ) → host ≤ hosts → length block ≡ 12
-      → Findable runs head (stock elements (rest .tags) (rest .blank)) (rest .search) host block
+      → Findable runs head (stock elements tags blank) search host block
   findable host block known long =
       record {
         reads = s .ready-to-list host block known long;
@@ -70,7 +70,7 @@ module _ (runs : List Range) (head elements : List ℕ) (rest : Rest) (s : Suite
         few = few-runs runs head (s .ready-to-move .runs-are) (s .ready-to-move .few);
       }
 
-  pub countable : (host : ℕ) (block : List ℕ) → host ≤ hosts → length block ≡ 12 → Countable runs head elements (rest .tags) (rest .search) host block
+  pub countable : (host : ℕ) (block : List ℕ) → host ≤ hosts → length block ≡ 12 → Countable runs head elements tags search host block
   countable host block known long =
       let r = s .ready-to-list host block known long in
       record {

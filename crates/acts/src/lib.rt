@@ -4,13 +4,13 @@ use order::Cause;
 use order::Reply;
 use tables::Range;
 ghost use mathlib.Core.Path.{_≡_};
-ghost use Rattle.rules.specs.Tables.{lent, others};
+ghost use Rattle.rules.specs.Tables.{Rest, lent, searching};
 ghost use Rattle.rules.specs.Order.{outcome, fits};
 ghost use Rattle.rules.specs.Form.{fault};
 ghost use Rattle.rules.specs.Command.{act};
 ghost use Rattle.order.specs.Ending.{ended};
 ghost use Rattle.operation.specs.Meaning.{meaning};
-ghost use Rattle.acts.specs.Suited.{Served};
+ghost use Rattle.acts.specs.Suited.{Served, LendsAll};
 
 // The one place that chooses the command.
 pub fn act<'a>(
@@ -28,9 +28,9 @@ pub fn act<'a>(
     parameters: &[u8],
     answer: &mut [u8],
 ) -> Reply
-    requires { ⌜ Served op runs (now head) (now elements) (others (now tags) (now blank) (now generations) (now masks) (now search)) host (now block) ⌝ }
+    requires { ⌜ Served op runs (now head) (now elements) (now tags) (now blank) (now search) host (now block) ⌝ }
     requires { ⌜ fault (meaning op) (now head) (now block) (now parameters) ≡ 0 ⌝ }
-    ensures { λ r. ⌜ ended r (lent (now (head .exit)) (now (elements .exit)) (others (now (tags .entry)) (now (blank .entry)) (now (generations .entry)) (now (masks .entry)) (now (search .exit)))) (now (answer .exit)) ≡ outcome (lent (now (head .entry)) (now (elements .entry)) (others (now (tags .entry)) (now (blank .entry)) (now (generations .entry)) (now (masks .entry)) (now (search .entry)))) (now (answer .entry)) (fits (now (answer .entry)) (act (meaning op) (lent (now (head .entry)) (now (elements .entry)) (others (now (tags .entry)) (now (blank .entry)) (now (generations .entry)) (now (masks .entry)) (now (search .entry)))) host (now (block .entry)) (now (parameters .entry)))) ⌝ }
+    ensures { λ r. ⌜ ((rest : Rest) → LendsAll rest (now (tags .entry)) (now (blank .entry)) (now (generations .entry)) (now (masks .entry)) → ended r (lent (now (head .exit)) (now (elements .exit)) (searching rest (now (search .exit)))) (now (answer .exit)) ≡ outcome (lent (now (head .entry)) (now (elements .entry)) (searching rest (now (search .entry)))) (now (answer .entry)) (fits (now (answer .entry)) (act (meaning op) (lent (now (head .entry)) (now (elements .entry)) (searching rest (now (search .entry)))) host (now (block .entry)) (now (parameters .entry))))) ⌝ }
 {
     match op {
         Operation::TestUnitReady => order::good(head, host),

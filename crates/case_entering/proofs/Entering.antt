@@ -3,7 +3,7 @@ use Prim.Native.Nat.{ℕ}
 use mathlib.Core.Path.{_≡_, ap}
 use mathlib.Core.List.{List, []}
 use lib.ListN.{replicate}
-use Rattle.rules.specs.Tables.{Tables, lent, others}
+use Rattle.rules.specs.Tables.{Tables, Rest, lent, searching}
 use Rattle.rules.specs.Order.{Outcome}
 use Rattle.order.specs.declared.Reply.{Reply}
 use Rattle.order.specs.Ending.{ended}
@@ -17,10 +17,9 @@ beside-it r t buffer o e = ap (beside buffer) e
 
 -- the outcome of a call on what was lent is that of the call on what was meant
 module _ (w f s host : ℕ) (r : Reply) (block : List ℕ) where
-  pub on-parts : (n : ℕ) (head elements search answer h es ss filled tags tags′ blank blank′ generations generations′ masks masks′ ps ps′ : List ℕ)
-      → tags ≡ tags′ → blank ≡ blank′ → generations ≡ generations′ → masks ≡ masks′ → ps ≡ ps′ → filled ≡ replicate n 0xEE
-      → ended r (lent head elements (others tags blank generations masks search)) answer ≡ called w f s (lent h es (others tags blank generations masks ss)) host block ps filled
-      → ended r (lent head elements (others tags′ blank′ generations′ masks′ search)) answer
-      ≡ called w f s (lent h es (others tags′ blank′ generations′ masks′ ss)) host block ps′ (untouched n)
+  pub on-parts : (n : ℕ) (head elements answer h es ss filled ps ps′ : List ℕ) (rest rest′ : Rest)
+      → rest ≡ rest′ → ps ≡ ps′ → filled ≡ replicate n 0xEE
+      → ended r (lent head elements rest) answer ≡ called w f s (lent h es (searching rest ss)) host block ps filled
+      → ended r (lent head elements rest′) answer ≡ called w f s (lent h es (searching rest′ ss)) host block ps′ (untouched n)
   unfolding untouched
-  on-parts n head elements search answer h es ss filled tags tags′ blank blank′ generations generations′ masks masks′ ps ps′ a b c d e i j = cc
+  on-parts n head elements answer h es ss filled ps ps′ rest rest′ a b c d = rw (← a, ← b, ← c) d

@@ -6,13 +6,14 @@ ghost use mathlib.Core.List.{[]};
 ghost use mathlib.Core.Bool.{true};
 ghost use Prim.Native.Nat.{ℕ, _≤_};
 ghost use lib.ListN.{length};
-ghost use Rattle.rules.specs.Tables.{lent, others, searching, searchSize, Rest};
+ghost use Rattle.rules.specs.Tables.{lent, searching, searchSize, Rest};
 ghost use Rattle.rules.specs.Sound.{sound};
 ghost use Rattle.rules.specs.Command.{Command};
 ghost use Rattle.rules.specs.Log.{eventOf, entryOf};
 ghost use Rattle.rules.specs.Replay.{afterLine, turnOn, turn as turnOf};
 ghost use Rattle.ports.specs.Judged.{Importable};
 ghost use Rattle.log_line.specs.Table.{Tabled};
+ghost use Rattle.log_steps.specs.Recorded.{Given};
 ghost use Rattle.log_call.specs.Event.{recorded};
 ghost use Rattle.log_call.specs.Turned.{Kept, turned, Taken};
 
@@ -43,7 +44,6 @@ fn obey<'a>(
     head: &mut [u8],
     elements: &mut [u8],
     tags: &'a [u8],
-    blank: &'a [u8],
     generations: &'a [u8],
     masks: &'a [u8],
     search: &mut [u8],
@@ -51,8 +51,8 @@ fn obey<'a>(
     block: &[u8],
     list: &[u8],
 )
-    requires { ⌜ Kept runs (now head) (now elements) (others (now tags) (now blank) (now generations) (now masks) (now search)) ⌝ }
-    ensures { λ _. ⌜ lent (now (head .exit)) (now (elements .exit)) (others (now (tags .entry)) (now (blank .entry)) (now (generations .entry)) (now (masks .entry)) (now (search .exit))) ≡ afterLine (lent (now (head .entry)) (now (elements .entry)) (others (now (tags .entry)) (now (blank .entry)) (now (generations .entry)) (now (masks .entry)) (now (search .entry)))) (Command (record { host = host; block = now (block .entry); parameters = now (list .entry); buffer = [] })) ⌝ }
+    requires { ⌜ Kept runs (now head) (now elements) (now tags) (now generations) (now masks) (now search) ⌝ }
+    ensures { λ _. ⌜ ((rest : Rest) → Given rest (now (tags .entry)) (now (generations .entry)) (now (masks .entry)) → sound (lent (now (head .entry)) (now (elements .entry)) (searching rest (now (search .entry)))) ≡ true → lent (now (head .exit)) (now (elements .exit)) (searching rest (now (search .exit))) ≡ afterLine (lent (now (head .entry)) (now (elements .entry)) (searching rest (now (search .entry)))) (Command (record { host = host; block = now (block .entry); parameters = now (list .entry); buffer = [] }))) ⌝ }
 {
     if !numbers::known_host(host as u32) {
         return;
@@ -142,7 +142,6 @@ fn carry<'a>(
     head: &mut [u8],
     elements: &mut [u8],
     tags: &'a [u8],
-    blank: &'a [u8],
     generations: &'a [u8],
     masks: &'a [u8],
     search: &mut [u8],
@@ -150,8 +149,8 @@ fn carry<'a>(
     block: &[u8],
     list: &[u8],
 ) -> bool
-    requires { ⌜ Kept runs (now head) (now elements) (others (now tags) (now blank) (now generations) (now masks) (now search)) ⌝ }
-    ensures { λ r. ⌜ ((e : ℕ) → record { applied = r; tables = lent (now (head .exit)) (now (elements .exit)) (others (now (tags .entry)) (now (blank .entry)) (now (generations .entry)) (now (masks .entry)) (now (search .exit))) } ≡ turnOn (lent (now (head .entry)) (now (elements .entry)) (others (now (tags .entry)) (now (blank .entry)) (now (generations .entry)) (now (masks .entry)) (now (search .entry)))) e (entryOf e host (now (block .entry)) (now (list .entry)))) ⌝ }
+    requires { ⌜ Kept runs (now head) (now elements) (now tags) (now generations) (now masks) (now search) ⌝ }
+    ensures { λ r. ⌜ ((rest : Rest) (e : ℕ) → Given rest (now (tags .entry)) (now (generations .entry)) (now (masks .entry)) → sound (lent (now (head .entry)) (now (elements .entry)) (searching rest (now (search .entry)))) ≡ true → record { applied = r; tables = lent (now (head .exit)) (now (elements .exit)) (searching rest (now (search .exit))) } ≡ turnOn (lent (now (head .entry)) (now (elements .entry)) (searching rest (now (search .entry)))) e (entryOf e host (now (block .entry)) (now (list .entry)))) ⌝ }
 {
     if host == 0 {
         let event = event_of(block, list);
@@ -162,7 +161,6 @@ fn carry<'a>(
         head,
         elements,
         tags,
-        blank,
         generations,
         masks,
         search,
@@ -179,7 +177,6 @@ pub fn turn<'a>(
     head: &mut [u8],
     elements: &mut [u8],
     tags: &'a [u8],
-    blank: &'a [u8],
     generations: &'a [u8],
     masks: &'a [u8],
     search: &mut [u8],
@@ -189,10 +186,10 @@ pub fn turn<'a>(
     block: &mut [u8],
     list: &mut [u8],
 ) -> Turned
-    requires { ⌜ Kept runs (now head) (now elements) (others (now tags) (now blank) (now generations) (now masks) (now search)) ⌝ }
+    requires { ⌜ Kept runs (now head) (now elements) (now tags) (now generations) (now masks) (now search) ⌝ }
     requires { ⌜ Tabled (now digits) ⌝ }
     requires { ⌜ (256 ≤ length (now block)) × (256 ≤ length (now list)) ⌝ }
-    ensures { λ r. ⌜ turned r (lent (now (head .exit)) (now (elements .exit)) (others (now (tags .entry)) (now (blank .entry)) (now (generations .entry)) (now (masks .entry)) (now (search .exit)))) ≡ turnOf (lent (now (head .entry)) (now (elements .entry)) (others (now (tags .entry)) (now (blank .entry)) (now (generations .entry)) (now (masks .entry)) (now (search .entry)))) expected (now (text .entry)) ⌝ }
+    ensures { λ r. ⌜ ((rest : Rest) → Given rest (now (tags .entry)) (now (generations .entry)) (now (masks .entry)) → sound (lent (now (head .entry)) (now (elements .entry)) (searching rest (now (search .entry)))) ≡ true → turned r (lent (now (head .exit)) (now (elements .exit)) (searching rest (now (search .exit)))) ≡ turnOf (lent (now (head .entry)) (now (elements .entry)) (searching rest (now (search .entry)))) expected (now (text .entry))) ⌝ }
     ensures { λ r. ⌜ Taken r (now (text .entry)) ⌝ }
 {
     match log_line::read_line(digits, text, block, list) {
@@ -212,7 +209,6 @@ pub fn turn<'a>(
                 head,
                 elements,
                 tags,
-                blank,
                 generations,
                 masks,
                 search,

@@ -4,13 +4,10 @@ use mathlib.Core.Path.{_≡_}
 use mathlib.Core.List.{List}
 use lib.ListN.{length}
 use Rattle.rules.specs.Tables.{hosts, Rest}
-use Rattle.rules.specs.Roster.{Range as Meant}
 use Rattle.tables.specs.declared.Range.{Range}
 use Rattle.operation.specs.declared.Operation.{Operation}
 use Rattle.operation.specs.Meaning.{Fitting}
 use Rattle.moves.specs.Judged.{Ready}
-use Rattle.pages.specs.Pages.{stock}
-use Rattle.listing.specs.Counting.{Listable}
 use Rattle.finding.specs.Findable.{Countable}
 
 pub record Recorded (op : Operation) (runs : List Range) (head elements tags search : List ℕ) (host : ℕ) (block : List ℕ) : Type 0 where
@@ -20,9 +17,8 @@ pub record Recorded (op : Operation) (runs : List Range) (head elements tags sea
   pub host-most : host ≤ hosts
   pub fitting : Fitting op block
 
--- the tables beside head and elements are those lent, and can be listed
-pub record Given (rest : Rest) (rs : List Meant) (elements tags generations masks : List ℕ) : Type 0 where
+-- what a recorded command reads and never writes: it leaves what the rules say for any rest that has these, whatever else it has
+pub record Given (rest : Rest) (tags generations masks : List ℕ) : Type 0 where
   pub tags-is : rest .tags ≡ tags
   pub generations-is : rest .generations ≡ generations
   pub masks-is : rest .masks ≡ masks
-  pub listable : Listable rs (stock elements (rest .tags) (rest .blank))

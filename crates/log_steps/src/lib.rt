@@ -13,6 +13,8 @@ ghost use Rattle.rules.specs.Sense.{requestSense};
 ghost use Rattle.rules.specs.Command.{act, stepsOf};
 ghost use Rattle.operation.specs.Meaning.{meaning};
 ghost use Rattle.tables.specs.Ranges.{meant};
+ghost use Rattle.pages.specs.Pages.{stock};
+ghost use Rattle.listing.specs.Counting.{Listable};
 ghost use Rattle.log_steps.specs.Recorded.{Recorded, Given};
 
 // REQUEST SENSE: "What was told is cleared, allocation 0 included."
@@ -43,7 +45,7 @@ fn command<'a>(
     parameters: &[u8],
 )
     requires { ⌜ Recorded op runs (now head) (now elements) (now tags) (now search) host (now block) ⌝ }
-    ensures { λ _. ⌜ ((rest : Rest) → Given rest (meant runs) (now (elements .entry)) (now (tags .entry)) (now (generations .entry)) (now (masks .entry)) → lent (now (head .exit)) (now (elements .exit)) (searching rest (now (search .exit))) ≡ after (act (meaning op) (lent (now (head .entry)) (now (elements .entry)) (searching rest (now (search .entry)))) host (now (block .entry)) (now (parameters .entry))) (lent (now (head .entry)) (now (elements .entry)) (searching rest (now (search .entry))))) ⌝ }
+    ensures { λ _. ⌜ ((rest : Rest) → Given rest (now (tags .entry)) (now (generations .entry)) (now (masks .entry)) → Listable (meant runs) (stock (now (elements .entry)) (rest .tags) (rest .blank)) → lent (now (head .exit)) (now (elements .exit)) (searching rest (now (search .exit))) ≡ after (act (meaning op) (lent (now (head .entry)) (now (elements .entry)) (searching rest (now (search .entry)))) host (now (block .entry)) (now (parameters .entry))) (lent (now (head .entry)) (now (elements .entry)) (searching rest (now (search .entry))))) ⌝ }
 {
     match op {
         Operation::TestUnitReady => {
@@ -98,7 +100,7 @@ pub fn carry_out<'a>(
     parameters: &[u8],
 )
     requires { ⌜ Recorded op runs (now head) (now elements) (now tags) (now search) host (now block) ⌝ }
-    ensures { λ _. ⌜ ((rest : Rest) → Given rest (meant runs) (now (elements .entry)) (now (tags .entry)) (now (generations .entry)) (now (masks .entry)) → lent (now (head .exit)) (now (elements .exit)) (searching rest (now (search .exit))) ≡ after (stepsOf (meaning op) (lent (now (head .entry)) (now (elements .entry)) (searching rest (now (search .entry)))) host (now (block .entry)) (now (parameters .entry))) (lent (now (head .entry)) (now (elements .entry)) (searching rest (now (search .entry))))) ⌝ }
+    ensures { λ _. ⌜ ((rest : Rest) → Given rest (now (tags .entry)) (now (generations .entry)) (now (masks .entry)) → Listable (meant runs) (stock (now (elements .entry)) (rest .tags) (rest .blank)) → lent (now (head .exit)) (now (elements .exit)) (searching rest (now (search .exit))) ≡ after (stepsOf (meaning op) (lent (now (head .entry)) (now (elements .entry)) (searching rest (now (search .entry)))) host (now (block .entry)) (now (parameters .entry))) (lent (now (head .entry)) (now (elements .entry)) (searching rest (now (search .entry))))) ⌝ }
 {
     match admission::judge(op, head, elements, host, block, parameters) {
         Admission::Pending => {

@@ -15,6 +15,8 @@ use Rattle.rules.specs.Replay.{Turn, turnOn, turn, Replayed, stopped, ahead, tu
 use Rattle.rules.proofs.Ladder.{yes, no, on, never}
 use Rattle.rules.proofs.Replaying.{applied-is, turn-sound, turn-ranges, turns-ten, turns-on, turns-end, ahead-none, ahead-ahead, ahead-stopped}
 use Rattle.tables.specs.declared.Range.{Range}
+use Rattle.tables.specs.Ranges.{Runs}
+use Rattle.log_steps.specs.Recorded.{Given}
 use Rattle.log_call.specs.declared.Turned.{Turned}
 use Rattle.log_call.specs.declared.Turned.the-variants.{Stopped, Applied}
 use Rattle.log_call.specs.Turned.{Kept, turned, Taken}
@@ -116,35 +118,49 @@ module _ (t₀ : Tables) (log : List ℕ) (e₀ budget : ℕ) where
               = rw one-more (turns-on _ t _ next left is-applied ∙ rw (← f, v, drop-drop n place log) refl) in
               inv ∙ ap (ahead lines place) g ∙ sym (ahead-ahead lines 1 place n _)
 
--- "checked once": a line leaves sound tables sound, and the ranges as they are
-pub still-kept : (runs : List Range) (head elements : List ℕ) (rest : Rest) → Kept runs head elements rest → (e : ℕ) (s : List ℕ) (r : Turned) (head' elements' : List ℕ) (rest' : Rest)
-    → turned r (lent head' elements' rest') ≡ turn (lent head elements rest) e s → Kept runs head' elements' rest'
-still-kept runs head elements rest k e s r head' elements' rest' i =
-    let t = lent head elements rest in
-    let u : lent head' elements' rest' ≡ turn t e s .tables = tables-of r (lent head' elements' rest') ∙ ap (λ (x : Turn). x .tables) i in
-    record {
-      sound-now = rw u (turn-sound t e s (k .sound-now));
-      runs-are = k .runs-are ∙ ap sorted (sym (ap (λ (x : Tables). ranges (x .head)) u ∙ turn-ranges t e s));
-    }
-  where
-    tables-of : (r : Turned) (t : Tables) → t ≡ turned r t .tables
-    tables-of Stopped t = unfold turned in refl
-    tables-of (Applied n) t = unfold turned in refl
+-- ---- "checked once": a line leaves sound tables sound, and the ranges as they are
+
+module _ (t u : Tables) (e : ℕ) (s : List ℕ) (r : Turned) (i : turned r u ≡ turn t e s) where
+  left-is : u ≡ turn t e s .tables
+  left-is = of r ∙ ap (λ (x : Turn). x .tables) i
+    where
+      of : (q : Turned) → u ≡ turned q u .tables
+      of Stopped = unfold turned in refl
+      of (Applied n) = unfold turned in refl
+
+  pub still-sound : sound t ≡ true → sound u ≡ true
+  still-sound k = rw left-is (turn-sound t e s k)
+
+  pub still-runs : (runs : List Range) → Runs runs (t .head) → Runs runs (u .head)
+  still-runs runs k = k ∙ ap sorted (sym (ap (λ (x : Tables). ranges (x .head)) left-is ∙ turn-ranges t e s))
 
 -- ---- the loop
 
-pub record Going (head₀ elements₀ search₀ : List ℕ) (rest : Rest) (log : List ℕ) (expected budget : ℕ) (runs : List Range) (head elements search block list : List ℕ) (lines place next : ℕ) : Type 0 where
+-- of every rest that has what a line reads, and with which the tables were sound
+abbrev pub Every : (head₀ elements₀ tags generations masks search₀ : List ℕ) → (Rest → Type 0) → Type 0
+Every head₀ elements₀ tags generations masks search₀ P =
+    (rest : Rest) → Given rest tags generations masks → sound (lent head₀ elements₀ (searching rest search₀)) ≡ true → P rest
+
+pub record Going (head₀ elements₀ tags generations masks search₀ log : List ℕ) (expected budget : ℕ) (runs : List Range) (head elements search block list : List ℕ) (lines place next : ℕ) : Type 0 where
   pub kept-head : length head ≡ length head₀
   pub kept-elements : length elements ≡ length elements₀
   pub kept-search : length search ≡ length search₀
-  pub kept : Kept runs head elements (searching rest search)
+  pub runs-are : Runs runs head
+  pub sound-still : Every head₀ elements₀ tags generations masks search₀ (λ rest. sound (lent head elements (searching rest search)) ≡ true)
   pub block-room : length block ≡ 256
   pub list-room : length list ≡ 256
   pub within-budget : lines ≤ budget
   pub inside : place ≤ length log
-  pub stands : Stands (lent head₀ elements₀ (searching rest search₀)) log expected budget (lent head elements (searching rest search)) lines place next
+  pub stands : Every head₀ elements₀ tags generations masks search₀
+      (λ rest. Stands (lent head₀ elements₀ (searching rest search₀)) log expected budget (lent head elements (searching rest search)) lines place next)
 
 -- ---- the whole
+
+-- what the first line finds
+abbrev pub first-kept : (head elements : List ℕ) (rest : Rest) (b : Bool) → b ≡ sound (lent head elements rest) → b ≡ true → (runs : List Range) → Runs runs head
+    → Kept runs head elements (rest .tags) (rest .generations) (rest .masks) (rest .search)
+first-kept head elements rest b i f runs is =
+    record { rest = rest; given = record { tags-is = refl; generations-is = refl; masks-is = refl }; sound-now = sym i ∙ f; runs-are = is }
 
 module _ (t : Tables) (log : List ℕ) (e budget : ℕ) (b : Bool) (i : b ≡ sound t) where
   pub unsound : b ≡ false → stopped 1 e t ≡ replay t log e budget

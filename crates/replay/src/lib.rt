@@ -2,9 +2,12 @@
 use log_call::Turned;
 use tables::Range;
 ghost use mathlib.Core.Path.{_≡_};
-ghost use Rattle.rules.specs.Tables.{lent, others};
+ghost use mathlib.Core.Bool.{true};
+ghost use Rattle.rules.specs.Tables.{Rest, lent, others, searching};
+ghost use Rattle.rules.specs.Sound.{sound};
 ghost use Rattle.rules.specs.Replay.{turns as turnsOf, replay as replayOf};
 ghost use Rattle.log_line.specs.Table.{Tabled};
+ghost use Rattle.log_steps.specs.Recorded.{Given};
 ghost use Rattle.log_call.specs.Turned.{Kept};
 ghost use Rattle.replay.specs.Ended.{ended};
 
@@ -37,7 +40,6 @@ fn turns<'a>(
     head: &mut [u8],
     elements: &mut [u8],
     tags: &'a [u8],
-    blank: &'a [u8],
     generations: &'a [u8],
     masks: &'a [u8],
     search: &mut [u8],
@@ -46,9 +48,9 @@ fn turns<'a>(
     expected: u32,
     budget: u32,
 ) -> Replayed
-    requires { ⌜ Kept runs (now head) (now elements) (others (now tags) (now blank) (now generations) (now masks) (now search)) ⌝ }
+    requires { ⌜ Kept runs (now head) (now elements) (now tags) (now generations) (now masks) (now search) ⌝ }
     requires { ⌜ Tabled (now digits) ⌝ }
-    ensures { λ r. ⌜ ended r (lent (now (head .exit)) (now (elements .exit)) (others (now (tags .entry)) (now (blank .entry)) (now (generations .entry)) (now (masks .entry)) (now (search .exit)))) ≡ turnsOf budget (lent (now (head .entry)) (now (elements .entry)) (others (now (tags .entry)) (now (blank .entry)) (now (generations .entry)) (now (masks .entry)) (now (search .entry)))) (now (log .entry)) expected ⌝ }
+    ensures { λ r. ⌜ ((rest : Rest) → Given rest (now (tags .entry)) (now (generations .entry)) (now (masks .entry)) → sound (lent (now (head .entry)) (now (elements .entry)) (searching rest (now (search .entry)))) ≡ true → ended r (lent (now (head .exit)) (now (elements .exit)) (searching rest (now (search .exit)))) ≡ turnsOf budget (lent (now (head .entry)) (now (elements .entry)) (searching rest (now (search .entry)))) (now (log .entry)) expected) ⌝ }
 {
     let mut block = [0u8; ROOM];
     let mut list = [0u8; ROOM];
@@ -65,7 +67,6 @@ fn turns<'a>(
             head,
             elements,
             tags,
-            blank,
             generations,
             masks,
             search,
@@ -111,7 +112,6 @@ pub fn replay<'a>(
         head,
         elements,
         tags,
-        blank,
         generations,
         masks,
         search,

@@ -16,7 +16,7 @@ use Rattle.rules.proofs.Places.{SameRanges, roster-same, roster-placed}
 use Rattle.rules.proofs.HeadFields.{Off, sensed-else, attended-else, announced-else, unitHeld-else, unitHeld-unit, masked-else}
 use Rattle.rules.proofs.ElementFields.{HoldsAlone, volume-alone, held-alone, freed-alone}
 use Rattle.rules.proofs.Panel.{shelves-same, shelves-elsewhere, shown-else, shown-panel, panel-same}
-use Rattle.rules.proofs.Soundness.{SenseFits, AttentionFits, HeadFits, RestFits, StockFits, HoldFits, ElementsFit, DrivesFit, Sound, head-ranges}
+use Rattle.rules.proofs.Soundness.{SenseFits, AttentionFits, HeadFits, RestFits, StockFits, HoldFits, ElementsFit, DrivesFit, Sound, rest-searched, head-ranges}
 use Rattle.rules.proofs.KeepHead.{sensed-fits, attended-fits, announced-fits, unitHeld-fits, masked-fits, shown-fits}
 use Rattle.rules.proofs.KeepDrives.{drives-head, drives-held, drives-searched, drives-filled, fits-port}
 use Rattle.rules.proofs.KeepElements.{place-long, fill-fits, held-fits, freed-fits, unit-fits}
@@ -165,10 +165,9 @@ element-change-sound (NewlyFree w) t x s =
 
 searched-sound : (t : Tables) (search : List ℕ) → Sound t → searchSound search ≡ true → Sound (lent (t .head) (t .elements) (searching (t .rest) search))
 searched-sound t search s f =
-    let r = s .rest-fits in
     record {
       head-fits = s .head-fits;
-      rest-fits = record { labels-fit = r .labels-fit; generations-fit = r .generations-fit; search-fits = f };
+      rest-fits = rest-searched _ search (s .rest-fits) f;
       elements-fit = s .elements-fit;
       panel-true = s .panel-true;
       drives-fit = drives-searched t _ (s .drives-fit) search;

@@ -10,7 +10,7 @@ use lib.Dec.{eqb, leb, ltb}
 use borrow.Author.Tests.{eqb-true, eqb-false, leb-true, ltb-true, ltb-false, eq-eqb, le-leb}
 use Rattle.rules.specs.Choice.{when, allOf, differ, below}
 use Rattle.rules.specs.Bytes.{byte}
-use Rattle.rules.specs.Tables.{Tables, Rest, headSize, elementSize, tagSize, hosts, places, volumes, unit, key, asc, ascq, attention, attentionq, volume, source, holder, id, mark, zeroByte, panel, emptyShelves, mostGenerations}
+use Rattle.rules.specs.Tables.{Tables, Rest, searching, headSize, elementSize, tagSize, hosts, places, volumes, unit, key, asc, ascq, attention, attentionq, volume, source, holder, id, mark, zeroByte, panel, emptyShelves, mostGenerations}
 use Rattle.rules.specs.Roster.{Slot, Range, range, ranges, roster, kindAt, kindOf, transport, storage, port}
 use Rattle.rules.specs.Sound.{within, countsSound, behind, rangeSound, noOverlap, clear, rangesSound, transportEmpty, sourceSound, markSound, stockSound, holdSound, once, senseSound, attentionSound, headSound, labelsSound, generationsSound, searchSound, restSound, elementsSound, sound, panelSound, drivesSound}
 use Rattle.rules.specs.Fitting.{suited}
@@ -354,6 +354,10 @@ rest-true r e =
 pub rest-of : (r : Rest) → RestFits r → restSound r ≡ true
 unfolding restSound
 rest-of r f = all-cons _ _ (labels-of _ _ (f .labels-fit)) (all-cons _ _ (generations-of _ _ (f .generations-fit)) (all-cons _ _ (f .search-fits) all-nil))
+
+-- with another search
+pub rest-searched : (r : Rest) (search : List ℕ) → RestFits r → searchSound search ≡ true → RestFits (searching r search)
+rest-searched r search f e = record { labels-fit = f .labels-fit; generations-fit = f .generations-fit; search-fits = e }
 
 -- ---- the elements, where u holds the unit and top is the last volume number
 

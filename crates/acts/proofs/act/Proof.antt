@@ -1,7 +1,7 @@
 -- `acts::act` meets its contract. Assumes nothing.
-use mathlib.Core.Path.{refl, sym, _∙_}
+use mathlib.Core.Path.{sym, _∙_}
 use mathlib.Core.List.{[]}
-use Rattle.rules.specs.Tables.{lent, others, bare}
+use Rattle.rules.specs.Tables.{lent, bare}
 use Rattle.rules.specs.Command.{act}
 use Rattle.rules.proofs.Untouched.{good-fits, move-fits, exchange-fits, reserve-fits, release-fits, prevent-fits, tag-fits, refused-fits}
 use Rattle.rules.proofs.Rungs.{ends-as}
@@ -156,7 +156,7 @@ request-volume-element-address-requires c κs =
     let taken = chosen .before .before in
     let began = taken .before .before .before .before .before .before .before .before .before .before in
     let s = began .pre .0 in
-    findable _ _ _ _ (s .suited) _ _ (s .host-most) (sized _ _ _ (s .fitting) (chosen .enum-told11 .given .1))
+    findable _ _ _ _ _ _ (s .suited) _ _ (s .host-most) (sized _ _ _ (s .fitting) (chosen .enum-told11 .given .1))
 
 enum-told-12 : tie.Need-enum-told-12
 enum-told-12 c = search needs
@@ -177,7 +177,7 @@ unfolding act meaning
 returns c =
     let called = c .before .before in
     let chosen = called .before .before in
-    ends-as _ _ (called .good2 .ensures _ _ _) (sym (good-fits (lent [] [] bare) _ [] _ []) ∙ acts _ _ (chosen .enum-told .given .1) _ _ _ _ _)
+    λ rest lends. ends-as _ _ (called .good2 .ensures _ _ _) (sym (good-fits (lent [] [] bare) _ [] _ []) ∙ acts _ _ (chosen .enum-told .given .1) _ _ _ _ _)
 
 same-length-2 : tie.Need-same-length-2
 same-length-2 c = search needs
@@ -190,7 +190,7 @@ unfolding act meaning
 returns-2 c =
     let called = c .before .before .before .before in
     let chosen = called .before .before .before in
-    ends-as _ _ (called .request-sense .ensures _ _) (acts _ _ (chosen .enum-told2 .given .1) _ _ _ _ _)
+    λ rest lends. ends-as _ _ (called .request-sense .ensures _ _) (acts _ _ (chosen .enum-told2 .given .1) _ _ _ _ _)
 
 same-length-4 : tie.Need-same-length-4
 same-length-4 c = search needs
@@ -203,7 +203,7 @@ unfolding act meaning
 returns-3 c =
     let called = c .before .before .before .before in
     let chosen = called .before .before .before in
-    ends-as _ _ (called .reserve .ensures _ _) (sym (reserve-fits _ _ _ _ _) ∙ acts _ _ (chosen .enum-told3 .given .1) _ _ _ _ _)
+    λ rest lends. ends-as _ _ (called .reserve .ensures _ _) (sym (reserve-fits _ _ _ _ _) ∙ acts _ _ (chosen .enum-told3 .given .1) _ _ _ _ _)
 
 same-length-6 : tie.Need-same-length-6
 same-length-6 c = search needs
@@ -216,7 +216,7 @@ unfolding act meaning
 returns-4 c =
     let called = c .before .before .before .before in
     let chosen = called .before .before .before in
-    ends-as _ _ (called .release .ensures _ _) (sym (release-fits _ _ _ _) ∙ acts _ _ (chosen .enum-told4 .given .1) _ _ _ _ _)
+    λ rest lends. ends-as _ _ (called .release .ensures _ _) (sym (release-fits _ _ _ _) ∙ acts _ _ (chosen .enum-told4 .given .1) _ _ _ _ _)
 
 same-length-8 : tie.Need-same-length-8
 same-length-8 c = search needs
@@ -226,7 +226,7 @@ unfolding act meaning
 returns-5 c =
     let called = c .before .before in
     let chosen = called .before .before in
-    ends-as _ _ (called .prevent-allow .ensures _ _ _) (sym (prevent-fits _ _ _ _) ∙ acts _ _ (chosen .enum-told5 .given .1) _ _ _ _ _)
+    λ rest lends. ends-as _ _ (called .prevent-allow .ensures _ _ _) (sym (prevent-fits _ _ _ _) ∙ acts _ _ (chosen .enum-told5 .given .1) _ _ _ _ _)
 
 same-length-9 : tie.Need-same-length-9
 same-length-9 c = search needs
@@ -239,7 +239,7 @@ unfolding act meaning
 returns-6 c =
     let called = c .before .before .before .before in
     let chosen = called .before .before .before in
-    ends-as _ _ (called .move-medium .ensures _ _ refl refl) (sym (move-fits _ _ _ _) ∙ acts _ _ (chosen .enum-told6 .given .1) _ _ _ _ _)
+    λ rest lends. ends-as _ _ (called .move-medium .ensures _ _ (lends .generations-is) (lends .masks-is)) (sym (move-fits _ _ _ _) ∙ acts _ _ (chosen .enum-told6 .given .1) _ _ _ _ _)
 
 same-length-11 : tie.Need-same-length-11
 same-length-11 c = search needs
@@ -252,7 +252,7 @@ unfolding act meaning
 returns-7 c =
     let called = c .before .before .before .before in
     let chosen = called .before .before .before in
-    ends-as _ _ (called .exchange-medium .ensures _ _ refl refl) (sym (exchange-fits _ _ _ _) ∙ acts _ _ (chosen .enum-told7 .given .1) _ _ _ _ _)
+    λ rest lends. ends-as _ _ (called .exchange-medium .ensures _ _ (lends .generations-is) (lends .masks-is)) (sym (exchange-fits _ _ _ _) ∙ acts _ _ (chosen .enum-told7 .given .1) _ _ _ _ _)
 
 same-length-13 : tie.Need-same-length-13
 same-length-13 c = search needs
@@ -268,7 +268,7 @@ unfolding act meaning
 returns-8 c =
     let called = c .before .before .before .before in
     let chosen = called .before .before .before .before in
-    ends-as _ _ (called .read-element-status .ensures _ (record { tags-is = refl; blank-is = refl })) (acts _ _ (chosen .enum-told8 .given .1) _ _ _ _ _)
+    λ rest lends. ends-as _ _ (called .read-element-status .ensures _ (record { tags-is = lends .labels .tags-is; blank-is = lends .labels .blank-is })) (acts _ _ (chosen .enum-told8 .given .1) _ _ _ _ _)
 
 same-length-16 : tie.Need-same-length-16
 same-length-16 c = search needs
@@ -281,7 +281,7 @@ unfolding act meaning
 returns-9 c =
     let called = c .before .before .before .before in
     let chosen = called .before .before .before in
-    ends-as _ _ (called .mode-sense .ensures _ _) (acts _ _ (chosen .enum-told9 .given .1) _ _ _ _ _)
+    λ rest lends. ends-as _ _ (called .mode-sense .ensures _ _) (acts _ _ (chosen .enum-told9 .given .1) _ _ _ _ _)
 
 same-length-18 : tie.Need-same-length-18
 same-length-18 c = search needs
@@ -294,7 +294,7 @@ unfolding act meaning
 returns-10 c =
     let called = c .before .before .before .before in
     let chosen = called .before .before .before in
-    ends-as _ _ (called .send-volume-tag .ensures _ (others _ _ _ _ []) _) (sym (tag-fits _ _ _ _ _) ∙ acts _ _ (chosen .enum-told10 .given .1) _ _ _ _ _)
+    λ rest lends. ends-as _ _ (called .send-volume-tag .ensures _ rest _) (sym (tag-fits _ _ _ _ _) ∙ acts _ _ (chosen .enum-told10 .given .1) _ _ _ _ _)
 
 same-length-20 : tie.Need-same-length-20
 same-length-20 c = search needs
@@ -313,7 +313,7 @@ unfolding act meaning
 returns-11 c =
     let called = c .before .before .before .before .before .before in
     let chosen = called .before .before .before .before .before in
-    ends-as _ _ (called .request-volume-element-address .ensures (others _ _ _ _ []) (record { tags-is = refl; blank-is = refl })) (acts _ _ (chosen .enum-told11 .given .1) _ _ _ _ _)
+    λ rest lends. ends-as _ _ (called .request-volume-element-address .ensures rest (lends .labels)) (acts _ _ (chosen .enum-told11 .given .1) _ _ _ _ _)
 
 same-length-24 : tie.Need-same-length-24
 same-length-24 c = search needs
@@ -323,7 +323,7 @@ unfolding act meaning reason
 returns-12 c =
     let called = c .before .before in
     let chosen = called .before .before in
-    ends-as _ _ (called .refuse .ensures _ _ _) (sym (refused-fits (lent [] [] bare) _ [] _ _) ∙ acts _ _ (chosen .enum-told12 .given .1) _ _ _ _ _)
+    λ rest lends. ends-as _ _ (called .refuse .ensures _ _ _) (sym (refused-fits (lent [] [] bare) _ [] _ _) ∙ acts _ _ (chosen .enum-told12 .given .1) _ _ _ _ _)
 
 pub act-spec : {M : Type 1} → statement M
 act-spec =

@@ -63,8 +63,8 @@ returns c =
     let part2 = part3 .before in
     let part = part2 .before in
     let fill = part .before .before .before .before .before in
-    on-parts _ _ _ _ _ _ _ _ _ _ _ _ _ _ _ _ _ _ _ _ _ _ _ _ _
-    (part .part .ensures) (part2 .part2 .ensures) (part3 .part3 .ensures) (part4 .part4 .ensures) (part5 .part5 .ensures) (fill .fill .ensures) (enter .enter .ensures)
+    on-parts _ _ _ _ _ _ _ _ _ _ _ _ _ _ _ _ _ _
+    (rw (part .part .ensures, part2 .part2 .ensures, part3 .part3 .ensures, part4 .part4 .ensures)) (part5 .part5 .ensures) (fill .fill .ensures) (enter .enter .ensures)
 
 pub entered-spec : {M : Type 1} → statement M
 entered-spec =

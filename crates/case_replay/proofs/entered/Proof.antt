@@ -55,7 +55,8 @@ returns c =
     let part3 = part4 .before in
     let part2 = part3 .before in
     let part = part2 .before .before .before in
-    on-parts _ _ _ _ _ _ _ _ _ _ _ _ _ _ _ _ _ _ _ (part2 .part2 .ensures) (part3 .part3 .ensures) (part4 .part4 .ensures) (part5 .part5 .ensures)
+    on-parts _ _ _ _ _ _ _ _ _ _ _ _
+    (rw (part2 .part2 .ensures, part3 .part3 .ensures, part4 .part4 .ensures, part5 .part5 .ensures))
     (log-is _ _ _ _ _ (part .part .ensures) (part6 .part6 .ensures)) (call .smc-replay .ensures)
 
 pub entered-spec : {M : Type 1} → statement M

@@ -1,7 +1,6 @@
 -- `log_call::carry` meets its contract. Assumes nothing.
-use mathlib.Core.Path.{refl, ap, _∙_}
-use mathlib.Core.List.{[]}
-use Rattle.rules.specs.Tables.{lent, others}
+use mathlib.Core.Path.{ap, _∙_}
+use Rattle.rules.specs.Tables.{lent}
 use Rattle.rules.specs.Replay.{turnOn}
 use Rattle.serving.proofs.Supply.{importable, search-room}
 use Rattle.log_call.proofs.Lines.{of-event, of-command}
@@ -15,8 +14,9 @@ event-of-requires c κs = search needs
 occur-requires : tie.Need-occur-requires
 occur-requires c κs =
     let asked = c .before .before .before in
-    let start = asked .before .before .before .before .before .before .before .before .before .before .before in
-    (importable _ _ _ (start .pre .sound-now) _ (start .pre .runs-are), search-room _ _ _ (start .pre .sound-now))
+    let start = asked .before .before .before .before .before .before .before .before .before .before in
+    let t = start .pre .given .tags-is in
+    (rw (← t) (importable _ _ _ (start .pre .sound-now) _ (start .pre .runs-are)), search-room _ _ _ (start .pre .sound-now))
 
 same-length : tie.Need-same-length
 same-length c = search needs
@@ -32,13 +32,12 @@ returns c =
     let occur = c .before .before .before .before .before .before in
     let event = occur .before .before .before .before in
     let yes1 = event .before in
-    let start = yes1 .before .before .before .before .before .before .before .before .before .before in
-    λ e. occur .occur .ensures (others _ _ _ _ []) e refl (start .pre .sound-now) ∙ ap (turnOn _ e) (event .event-of .ensures e) ∙ of-event (lent _ _ _) _ _ _ e (yes1 .if1 .taken)
+    λ rest e g s. occur .occur .ensures rest e (g .tags-is) s ∙ ap (turnOn _ e) (event .event-of .ensures e) ∙ of-event (lent _ _ _) _ _ _ e (yes1 .if1 .taken)
 
 obey-requires : tie.Need-obey-requires
 obey-requires c κs =
     let no1 = c .before .before .before in
-    let start = no1 .before .before .before .before .before .before .before .before .before .before in
+    let start = no1 .before .before .before .before .before .before .before .before .before in
     start .pre
 
 same-length-4 : tie.Need-same-length-4
@@ -54,7 +53,7 @@ returns-2 : tie.Need-returns-2
 returns-2 c =
     let obey = c .before .before .before .before .before .before in
     let no1 = obey .before .before .before .before in
-    λ e. of-command (lent _ _ _) _ _ _ e (no1 .if1 .left) _ (obey .obey .ensures)
+    λ rest e g s. of-command (lent _ _ _) _ _ _ e (no1 .if1 .left) _ (obey .obey .ensures rest g s)
 
 pub carry-spec : {M : Type 1} → statement M
 carry-spec =

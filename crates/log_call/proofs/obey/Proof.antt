@@ -1,9 +1,7 @@
 -- `log_call::obey` meets its contract. Assumes nothing.
-use mathlib.Core.Path.{refl, sym, _∙_}
+use mathlib.Core.Path.{sym, _∙_}
 use borrow.Author.Tests.{not-true, not-false}
-use mathlib.Core.List.{[]}
 use Rattle.rules.specs.Bytes.{byte}
-use Rattle.rules.specs.Tables.{others}
 use Rattle.rules.proofs.Soundness.{within-low, within-high}
 use Rattle.operation.proofs.Lengths.{some}
 use Rattle.acts.proofs.Supply.{suited, countable, listable-by}
@@ -19,8 +17,7 @@ known-host-requires c κs = search needs
 returns : tie.Need-returns
 returns c =
     let known = c .before in
-    let start = known .before .before .before .before .before .before .before .before .before .before in
-    no-host _ _ _ _ (start .pre .sound-now) _ (known .known-host .ensures) (not-true _ (c .if1 .taken))
+    λ rest g s. no-host _ _ _ _ s _ (known .known-host .ensures) (not-true _ (c .if1 .taken))
 
 block-fits-requires : tie.Need-block-fits-requires
 block-fits-requires c κs = search needs
@@ -30,8 +27,7 @@ returns-2 c =
     let fits = c .before in
     let no1 = fits .before in
     let known = no1 .before in
-    let start = known .before .before .before .before .before .before .before .before .before .before in
-    no-block _ _ _ _ (start .pre .sound-now) _ (known .known-host .ensures) (not-false _ (no1 .if1 .left)) _ (fits .block-fits .ensures) (not-true _ (c .if2 .taken))
+    λ rest g s. no-block _ _ _ _ s _ (known .known-host .ensures) (not-false _ (no1 .if1 .left)) _ (fits .block-fits .ensures) (not-true _ (c .if2 .taken))
 
 shared-slice-read-decode : tie.Need-shared-slice-read-decode
 shared-slice-read-decode c =
@@ -58,8 +54,7 @@ returns-3 c =
     let fits = no2 .before in
     let no1 = fits .before in
     let known = no1 .before in
-    let start = known .before .before .before .before .before .before .before .before .before .before in
-    no-list _ _ _ _ (start .pre .sound-now) _ (known .known-host .ensures) (not-false _ (no1 .if1 .left)) _ (fits .block-fits .ensures) (not-false _ (no2 .if2 .left)) _ (fit-is _ _ (told .decode .ensures) _ _ (given .parameters-fit .ensures)) (not-true _ (c .if3 .taken))
+    λ rest g s. no-list _ _ _ _ s _ (known .known-host .ensures) (not-false _ (no1 .if1 .left)) _ (fits .block-fits .ensures) (not-false _ (no2 .if2 .left)) _ (fit-is _ _ (told .decode .ensures) _ _ (given .parameters-fit .ensures)) (not-true _ (c .if3 .taken))
 
 carry-out-requires : tie.Need-carry-out-requires
 unfolding byte
@@ -71,12 +66,13 @@ carry-out-requires c κs =
     let fits = no2 .before in
     let no1 = fits .before in
     let known = no1 .before in
-    let start = known .before .before .before .before .before .before .before .before .before .before in
+    let start = known .before .before .before .before .before .before .before .before .before in
     let h = sym (known .known-host .ensures) ∙ not-false _ (no1 .if1 .left) in
     let suits = suited _ _ _ (start .pre .sound-now) _ (start .pre .runs-are) in
+    let t = start .pre .given .tags-is in
     record {
       ready = suits .ready-to-move;
-      counts = countable _ _ _ _ suits _ _ (within-high _ _ _ h);
+      counts = rw (← t) (countable _ _ _ _ _ _ suits _ _ (within-high _ _ _ h));
       host-some = within-low _ _ _ h;
       host-most = within-high _ _ _ h;
       fitting = fitting _ _ (told .decode .ensures) (sym (fits .block-fits .ensures) ∙ not-false _ (no2 .if2 .left));
@@ -102,8 +98,8 @@ returns-4 c =
     let fits = no2 .before in
     let no1 = fits .before in
     let known = no1 .before in
-    let start = known .before .before .before .before .before .before .before .before .before .before in
-    obeyed _ _ _ _ (start .pre .sound-now) _ (known .known-host .ensures) (not-false _ (no1 .if1 .left)) _ (fits .block-fits .ensures) (not-false _ (no2 .if2 .left)) _ (fit-is _ _ (told .decode .ensures) _ _ (given .parameters-fit .ensures)) (not-false _ (no3 .if3 .left)) _ (fitting _ _ (told .decode .ensures) (sym (fits .block-fits .ensures) ∙ not-false _ (no2 .if2 .left)) .decoded) _ (done .carry-out .ensures (others _ _ _ _ []) (record { tags-is = refl; generations-is = refl; masks-is = refl; listable = listable-by _ _ _ (start .pre .sound-now) _ (start .pre .runs-are) }))
+    let start = known .before .before .before .before .before .before .before .before .before in
+    λ rest g s. obeyed _ _ _ _ s _ (known .known-host .ensures) (not-false _ (no1 .if1 .left)) _ (fits .block-fits .ensures) (not-false _ (no2 .if2 .left)) _ (fit-is _ _ (told .decode .ensures) _ _ (given .parameters-fit .ensures)) (not-false _ (no3 .if3 .left)) _ (fitting _ _ (told .decode .ensures) (sym (fits .block-fits .ensures) ∙ not-false _ (no2 .if2 .left)) .decoded) _ (done .carry-out .ensures rest g (listable-by _ _ _ s _ (start .pre .runs-are)))
 
 pub obey-spec : {M : Type 1} → statement M
 obey-spec =

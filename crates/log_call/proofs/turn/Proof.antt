@@ -26,7 +26,7 @@ returns : tie.Need-returns
 returns c =
     let number = c .before .before in
     let read = number .before .before .before .before .before .before in
-    (another-number _ _ _ _ (read .read-line .ensures .0) (read .read-line .ensures .1) (lent _ _ _) _ _ _ _ _ _ (number .number .given .1) (c .if1 .taken), stopped-takes _)
+    (λ rest g s. another-number _ _ _ _ (read .read-line .ensures .0) (read .read-line .ensures .1) (lent _ _ _) _ _ _ _ _ _ (number .number .given .1) (c .if1 .taken), stopped-takes _)
 
 slice-reshare-prefix-carry : tie.Need-slice-reshare-prefix-carry
 slice-reshare-prefix-carry c =
@@ -76,17 +76,17 @@ returns-2 c =
     let no1 = carry .before .before .before .before .before .before in
     let number = no1 .before .before in
     let read = number .before .before .before .before .before .before in
-    (not-carried _ _ _ _ (read .read-line .ensures .0) (read .read-line .ensures .1) (lent _ _ _) _ _ _ _ _ _ (number .number .given .1) (no1 .if1 .left) _ _ (carry .carry .ensures _) (not-true _ (c .if2 .taken)), stopped-takes _)
+    (λ rest g s. not-carried _ _ _ _ (read .read-line .ensures .0) (read .read-line .ensures .1) (lent _ _ _) _ _ _ _ _ _ (number .number .given .1) (no1 .if1 .left) _ _ (carry .carry .ensures rest _ g s) (not-true _ (c .if2 .taken)), stopped-takes _)
 
-add-t37 : tie.Need-add-t37
-add-t37 c =
+add-t36 : tie.Need-add-t36
+add-t36 c =
     let carry = c .before .before .before .before .before .before .before in
     let no1 = carry .before .before .before .before .before .before in
     let number = no1 .before .before in
     let read = number .before .before .before .before .before .before in
     let lends = read .before .before .before in
-    let start = lends .before .before .before .before .before .before .before .before .before .before .before in
-    omega (arith, start .good .1 .1 .1 .1 .1 .1 .1 .1 .1 .1 .0, held _ _ _ _ (read .read-line .ensures .0) (read .read-line .ensures .1) _ _ _ _ _ (number .number .given .1) .inside)
+    let start = lends .before .before .before .before .before .before .before .before .before .before in
+    omega (arith, start .good .1 .1 .1 .1 .1 .1 .1 .1 .1 .0, held _ _ _ _ (read .read-line .ensures .0) (read .read-line .ensures .1) _ _ _ _ _ (number .number .given .1) .inside)
 
 same-length-8 : tie.Need-same-length-8
 same-length-8 c = search needs
@@ -97,7 +97,7 @@ same-length-9 c = search needs
 returns-3 : tie.Need-returns-3
 returns-3 c =
     let read = c .before .before .before .before .before .before in
-    (another-form _ _ _ _ (read .read-line .ensures .0) (read .read-line .ensures .1) (lent _ _ _) _ (c .enum-told .given .1), stopped-takes _)
+    (λ rest g s. another-form _ _ _ _ (read .read-line .ensures .0) (read .read-line .ensures .1) (lent _ _ _) _ (c .enum-told .given .1), stopped-takes _)
 
 same-length-10 : tie.Need-same-length-10
 same-length-10 c = search needs
@@ -120,7 +120,7 @@ returns-4 c =
     let no1 = carry .before .before .before .before .before .before in
     let number = no1 .before .before in
     let read = number .before .before .before .before .before .before in
-    (was-carried _ _ _ _ (read .read-line .ensures .0) (read .read-line .ensures .1) (lent _ _ _) _ _ _ _ _ _ (number .number .given .1) (no1 .if1 .left) _ _ (carry .carry .ensures _) _ (not-false _ (c .if2 .left)), takes _ _ _ _ (read .read-line .ensures .0) (read .read-line .ensures .1) _ _ _ _ _ (number .number .given .1))
+    (λ rest g s. was-carried _ _ _ _ (read .read-line .ensures .0) (read .read-line .ensures .1) (lent _ _ _) _ _ _ _ _ _ (number .number .given .1) (no1 .if1 .left) _ _ (carry .carry .ensures rest _ g s) _ (not-false _ (c .if2 .left)), takes _ _ _ _ (read .read-line .ensures .0) (read .read-line .ensures .1) _ _ _ _ _ (number .number .given .1))
 
 pub turn-spec : {M : Type 1} → statement M
 turn-spec =
@@ -143,7 +143,7 @@ turn-spec =
     same-length-6
     same-length-7
     returns-2
-    add-t37
+    add-t36
     same-length-8
     same-length-9
     returns-3

@@ -52,7 +52,7 @@ returns c =
     let called = c .before .before in
     let told = called .before .before in
     let judged = told .before .before in
-    λ rest g. admits _ (lent _ _ (searching rest _)) _ _ _ _ _ (judged .judge .ensures) _ (told .enum-told .given .1) (left-by (lent _ _ (searching rest _)) [] _ _ (called .report .ensures _ (searching rest _) [] _))
+    λ rest g l. admits _ (lent _ _ (searching rest _)) _ _ _ _ _ (judged .judge .ensures) _ (told .enum-told .given .1) (left-by (lent _ _ (searching rest _)) [] _ _ (called .report .ensures _ (searching rest _) [] _))
 
 same-length-3 : tie.Need-same-length-3
 same-length-3 c = search needs
@@ -66,7 +66,7 @@ returns-2 c =
     let called = c .before .before in
     let told = called .before .before in
     let judged = told .before .before in
-    λ rest g. admits _ (lent _ _ (searching rest _)) _ _ _ _ _ (judged .judge .ensures) _ (told .enum-told2 .given .1) (left-by (lent _ _ (searching rest _)) [] _ _ (called .conflict .ensures _ (searching rest _) []))
+    λ rest g l. admits _ (lent _ _ (searching rest _)) _ _ _ _ _ (judged .judge .ensures) _ (told .enum-told2 .given .1) (left-by (lent _ _ (searching rest _)) [] _ _ (called .conflict .ensures _ (searching rest _) []))
 
 same-length-5 : tie.Need-same-length-5
 same-length-5 c = search needs
@@ -80,7 +80,7 @@ returns-3 c =
     let called = c .before .before in
     let told = called .before .before .before in
     let judged = told .before .before in
-    λ rest g. admits _ (lent _ _ (searching rest _)) _ _ _ _ _ (judged .judge .ensures) _ (told .at .given .1) (left-by (lent _ _ (searching rest _)) [] _ _ (called .refuse .ensures _ (searching rest _) []))
+    λ rest g l. admits _ (lent _ _ (searching rest _)) _ _ _ _ _ (judged .judge .ensures) _ (told .at .given .1) (left-by (lent _ _ (searching rest _)) [] _ _ (called .refuse .ensures _ (searching rest _) []))
 
 same-length-7 : tie.Need-same-length-7
 same-length-7 c = search needs
@@ -97,7 +97,7 @@ returns-4 c =
     let called = c .before .before .before .before .before .before in
     let told = called .before .before .before .before in
     let judged = told .before .before in
-    λ rest g. admits _ (lent _ _ (searching rest _)) _ _ _ _ _ (judged .judge .ensures) _ (told .enum-told3 .given .1) (called .command .ensures rest g)
+    λ rest g l. admits _ (lent _ _ (searching rest _)) _ _ _ _ _ (judged .judge .ensures) _ (told .enum-told3 .given .1) (called .command .ensures rest g l)
 
 pub carry-out-spec : {M : Type 1} → statement M
 carry-out-spec =

@@ -127,7 +127,7 @@ unfolding act meaning
 returns c =
     let called = c .before .before in
     let chosen = called .before .before in
-    λ rest g. acts _ (lent _ _ (searching rest _)) _ _ _ _ _ (chosen .enum-told .given .1) (left-by (lent _ _ (searching rest _)) [] _ _ (called .good2 .ensures _ (searching rest _) []))
+    λ rest g l. acts _ (lent _ _ (searching rest _)) _ _ _ _ _ (chosen .enum-told .given .1) (left-by (lent _ _ (searching rest _)) [] _ _ (called .good2 .ensures _ (searching rest _) []))
 
 same-length-2 : tie.Need-same-length-2
 same-length-2 c = search needs
@@ -137,7 +137,7 @@ unfolding act meaning
 returns-2 c =
     let called = c .before .before in
     let chosen = called .before .before in
-    λ rest g. acts _ (lent _ _ (searching rest _)) _ _ _ _ _ (chosen .enum-told2 .given .1) (called .forget .ensures _ (searching rest _) _)
+    λ rest g l. acts _ (lent _ _ (searching rest _)) _ _ _ _ _ (chosen .enum-told2 .given .1) (called .forget .ensures _ (searching rest _) _)
 
 same-length-3 : tie.Need-same-length-3
 same-length-3 c = search needs
@@ -150,7 +150,7 @@ unfolding act meaning
 returns-3 c =
     let called = c .before .before .before .before in
     let chosen = called .before .before .before in
-    λ rest g. acts _ (lent _ _ (searching rest _)) _ _ _ _ _ (chosen .enum-told3 .given .1) (left-by (lent _ _ (searching rest _)) [] _ _ (called .reserve .ensures (searching rest _) []))
+    λ rest g l. acts _ (lent _ _ (searching rest _)) _ _ _ _ _ (chosen .enum-told3 .given .1) (left-by (lent _ _ (searching rest _)) [] _ _ (called .reserve .ensures (searching rest _) []))
 
 same-length-5 : tie.Need-same-length-5
 same-length-5 c = search needs
@@ -163,7 +163,7 @@ unfolding act meaning
 returns-4 c =
     let called = c .before .before .before .before in
     let chosen = called .before .before .before in
-    λ rest g. acts _ (lent _ _ (searching rest _)) _ _ _ _ _ (chosen .enum-told4 .given .1) (left-by (lent _ _ (searching rest _)) [] _ _ (called .release .ensures (searching rest _) []))
+    λ rest g l. acts _ (lent _ _ (searching rest _)) _ _ _ _ _ (chosen .enum-told4 .given .1) (left-by (lent _ _ (searching rest _)) [] _ _ (called .release .ensures (searching rest _) []))
 
 same-length-7 : tie.Need-same-length-7
 same-length-7 c = search needs
@@ -173,7 +173,7 @@ unfolding act meaning
 returns-5 c =
     let called = c .before .before in
     let chosen = called .before .before in
-    λ rest g. acts _ (lent _ _ (searching rest _)) _ _ _ _ _ (chosen .enum-told5 .given .1) (left-by (lent _ _ (searching rest _)) [] _ _ (called .prevent-allow .ensures _ (searching rest _) []))
+    λ rest g l. acts _ (lent _ _ (searching rest _)) _ _ _ _ _ (chosen .enum-told5 .given .1) (left-by (lent _ _ (searching rest _)) [] _ _ (called .prevent-allow .ensures _ (searching rest _) []))
 
 same-length-8 : tie.Need-same-length-8
 same-length-8 c = search needs
@@ -186,7 +186,7 @@ unfolding act meaning
 returns-6 c =
     let called = c .before .before .before .before in
     let chosen = called .before .before .before in
-    λ rest g. acts _ (lent _ _ (searching rest _)) _ _ _ _ _ (chosen .enum-told6 .given .1) (left-by (lent _ _ (searching rest _)) [] _ _ (called .move-medium .ensures (searching rest _) [] (g .generations-is) (g .masks-is)))
+    λ rest g l. acts _ (lent _ _ (searching rest _)) _ _ _ _ _ (chosen .enum-told6 .given .1) (left-by (lent _ _ (searching rest _)) [] _ _ (called .move-medium .ensures (searching rest _) [] (g .generations-is) (g .masks-is)))
 
 same-length-10 : tie.Need-same-length-10
 same-length-10 c = search needs
@@ -199,7 +199,7 @@ unfolding act meaning
 returns-7 c =
     let called = c .before .before .before .before in
     let chosen = called .before .before .before in
-    λ rest g. acts _ (lent _ _ (searching rest _)) _ _ _ _ _ (chosen .enum-told7 .given .1) (left-by (lent _ _ (searching rest _)) [] _ _ (called .exchange-medium .ensures (searching rest _) [] (g .generations-is) (g .masks-is)))
+    λ rest g l. acts _ (lent _ _ (searching rest _)) _ _ _ _ _ (chosen .enum-told7 .given .1) (left-by (lent _ _ (searching rest _)) [] _ _ (called .exchange-medium .ensures (searching rest _) [] (g .generations-is) (g .masks-is)))
 
 same-length-12 : tie.Need-same-length-12
 same-length-12 c = search needs
@@ -209,7 +209,7 @@ unfolding act meaning
 returns-8 c =
     let called = c .before .before in
     let chosen = called .before .before in
-    λ rest g. acts _ (lent _ _ (searching rest _)) _ _ _ _ _ (chosen .enum-told8 .given .1) ((left-by (lent _ _ (searching rest _)) [] _ _ (called .good3 .ensures _ (searching rest _) [])) ∙ listed (lent _ _ (searching rest _)) _ _)
+    λ rest g l. acts _ (lent _ _ (searching rest _)) _ _ _ _ _ (chosen .enum-told8 .given .1) ((left-by (lent _ _ (searching rest _)) [] _ _ (called .good3 .ensures _ (searching rest _) [])) ∙ listed (lent _ _ (searching rest _)) _ _)
 
 same-length-13 : tie.Need-same-length-13
 same-length-13 c = search needs
@@ -219,7 +219,7 @@ unfolding act meaning
 returns-9 c =
     let called = c .before .before in
     let chosen = called .before .before in
-    λ rest g. acts _ (lent _ _ (searching rest _)) _ _ _ _ _ (chosen .enum-told9 .given .1) ((left-by (lent _ _ (searching rest _)) [] _ _ (called .good4 .ensures _ (searching rest _) [])) ∙ paged (lent _ _ (searching rest _)) _ _)
+    λ rest g l. acts _ (lent _ _ (searching rest _)) _ _ _ _ _ (chosen .enum-told9 .given .1) ((left-by (lent _ _ (searching rest _)) [] _ _ (called .good4 .ensures _ (searching rest _) [])) ∙ paged (lent _ _ (searching rest _)) _ _)
 
 same-length-14 : tie.Need-same-length-14
 same-length-14 c = search needs
@@ -232,7 +232,7 @@ unfolding act meaning
 returns-10 c =
     let called = c .before .before .before .before in
     let chosen = called .before .before .before in
-    λ rest g. acts _ (lent _ _ (searching rest _)) _ _ _ _ _ (chosen .enum-told10 .given .1) (left-by (lent _ _ (searching rest _)) [] _ _ (called .send-volume-tag .ensures _ rest []))
+    λ rest g l. acts _ (lent _ _ (searching rest _)) _ _ _ _ _ (chosen .enum-told10 .given .1) (left-by (lent _ _ (searching rest _)) [] _ _ (called .send-volume-tag .ensures _ rest []))
 
 same-length-16 : tie.Need-same-length-16
 same-length-16 c = search needs
@@ -248,7 +248,7 @@ unfolding act meaning
 returns-11 c =
     let called = c .before .before .before .before in
     let chosen = called .before .before .before .before in
-    λ rest g. acts _ (lent _ _ (searching rest _)) _ _ _ _ _ (chosen .enum-told11 .given .1) (called .go-on .ensures rest (g .tags-is) (g .listable))
+    λ rest g l. acts _ (lent _ _ (searching rest _)) _ _ _ _ _ (chosen .enum-told11 .given .1) (called .go-on .ensures rest (g .tags-is) l)
 
 same-length-19 : tie.Need-same-length-19
 same-length-19 c = search needs
@@ -258,7 +258,7 @@ unfolding act meaning reason
 returns-12 c =
     let called = c .before .before in
     let chosen = called .before .before in
-    λ rest g. acts _ (lent _ _ (searching rest _)) _ _ _ _ _ (chosen .enum-told12 .given .1) (left-by (lent _ _ (searching rest _)) [] _ _ (called .refuse .ensures _ (searching rest _) []))
+    λ rest g l. acts _ (lent _ _ (searching rest _)) _ _ _ _ _ (chosen .enum-told12 .given .1) (left-by (lent _ _ (searching rest _)) [] _ _ (called .refuse .ensures _ (searching rest _) []))
 
 pub command-spec : {M : Type 1} → statement M
 command-spec =

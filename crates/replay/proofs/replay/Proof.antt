@@ -1,8 +1,7 @@
 -- `replay::replay` meets its contract. Assumes nothing.
-use mathlib.Core.Path.{sym, _∙_}
 use borrow.Author.Tests.{not-true, not-false}
 use Rattle.rules.specs.Tables.{lent}
-use Rattle.replay.proofs.Ways.{told-ends, unsound, replayed}
+use Rattle.replay.proofs.Ways.{told-ends, first-kept, unsound, replayed}
 use borrow.Author.Needs.{needs}
 use Rattle.replay.proofs.replay.Statement.{statement}
 use Rattle.replay.proofs.replay.Tie as tie
@@ -43,7 +42,7 @@ turns-requires c κs =
     let no1 = tabled .before .before .before in
     let check = no1 .before .before in
     let whole = not-false _ (no1 .if1 .left) in
-    (record { sound-now = sym (check .check .ensures .0) ∙ whole; runs-are = check .check .ensures .1 whole }, tabled .tabulate .ensures)
+    (first-kept _ _ _ _ (check .check .ensures .0) whole _ (check .check .ensures .1 whole), tabled .tabulate .ensures)
 
 same-length-4 : tie.Need-same-length-4
 same-length-4 c = search needs
@@ -60,7 +59,9 @@ returns-2 c =
     let tabled = turns .before .before .before .before .before .before in
     let no1 = tabled .before .before .before in
     let check = no1 .before .before in
-    replayed (lent _ _ _) _ _ _ _ (check .check .ensures .0) (not-false _ (no1 .if1 .left)) _ (turns .turns .ensures)
+    let whole = not-false _ (no1 .if1 .left) in
+    let kept = first-kept _ _ _ _ (check .check .ensures .0) whole _ (check .check .ensures .1 whole) in
+    replayed (lent _ _ _) _ _ _ _ (check .check .ensures .0) whole _ (turns .turns .ensures (kept .rest) (kept .given) (kept .sound-now))
 
 pub replay-spec : {M : Type 1} → statement M
 replay-spec =

@@ -10,6 +10,7 @@ use Rattle.rules.proofs.Rungs.{ends-as}
 use Rattle.rules.proofs.Soundness.{within-low, within-high}
 use Rattle.operation.proofs.Lengths.{some}
 use Rattle.acts.proofs.Supply.{suited}
+use Rattle.serving.proofs.Supply.{told-of, lends-all}
 use Rattle.serving.proofs.Ends.{number-ends, fitting, fit-is, steps-are, command-is}
 use borrow.Author.Needs.{needs}
 use Rattle.serving.proofs.command.Statement.{statement}
@@ -193,7 +194,7 @@ returns-5 c =
     let whole = known .before in
     let asked = whole .before in
     let checked = asked .before in
-    ends-as _ _ (called .steps .ensures)
+    ends-as _ _ (called .steps .ensures (told-of _ _ _ _ (checked .check .ensures .0)) lends-all)
     (yes _ _ _ _ _ (checked .check .ensures .0) (not-false _ (whole .if1 .left))
     (yes _ _ _ _ _ (asked .known-host .ensures) (not-false _ (known .if2 .left))
     (yes _ _ _ _ _ (read .block-fits .ensures) (not-false _ (fits .if3 .left))

@@ -71,7 +71,7 @@ returns c =
     let called = c .before .before in
     let told = called .before .before in
     let judged = told .before .before in
-    ends-as _ _ (called .report .ensures _ _ _ _) (pending-ends _ (lent _ _ _) _ _ _ _ _ (judged .judge .ensures) (told .enum-told .given .1))
+    λ rest lends. ends-as _ _ (called .report .ensures _ _ _ _) (pending-ends _ (lent _ _ _) _ _ _ _ _ (judged .judge .ensures) (told .enum-told .given .1))
 
 same-length-3 : tie.Need-same-length-3
 same-length-3 c = search needs
@@ -84,7 +84,7 @@ returns-2 c =
     let called = c .before .before in
     let told = called .before .before in
     let judged = told .before .before in
-    ends-as _ _ (called .conflict .ensures _ _ _) (held-ends _ (lent _ _ _) _ _ _ _ _ (judged .judge .ensures) (told .enum-told2 .given .1))
+    λ rest lends. ends-as _ _ (called .conflict .ensures _ _ _) (held-ends _ (lent _ _ _) _ _ _ _ _ (judged .judge .ensures) (told .enum-told2 .given .1))
 
 same-length-5 : tie.Need-same-length-5
 same-length-5 c = search needs
@@ -98,7 +98,7 @@ returns-3 c =
     let called = c .before .before in
     let told = called .before .before .before in
     let judged = told .before .before in
-    ends-as _ _ (called .refuse .ensures _ _ _) (faulty-ends _ (lent _ _ _) _ _ _ _ _ (judged .judge .ensures) _ (told .at .given .1))
+    λ rest lends. ends-as _ _ (called .refuse .ensures _ _ _) (faulty-ends _ (lent _ _ _) _ _ _ _ _ (judged .judge .ensures) _ (told .at .given .1))
 
 same-length-7 : tie.Need-same-length-7
 same-length-7 c = search needs
@@ -117,7 +117,7 @@ returns-4 c =
     let called = c .before .before .before .before .before .before .before .before in
     let told = called .before .before .before .before .before in
     let judged = told .before .before in
-    ends-as _ _ (called .act .ensures) (open-ends _ (lent _ _ _) _ _ _ _ _ (judged .judge .ensures) (told .enum-told3 .given .1))
+    λ rest lends. ends-as _ _ (called .act .ensures rest lends) (open-ends _ (lent _ _ _) _ _ _ _ _ (judged .judge .ensures) (told .enum-told3 .given .1))
 
 pub steps-spec : {M : Type 1} → statement M
 steps-spec =

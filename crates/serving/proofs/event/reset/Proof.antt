@@ -1,12 +1,11 @@
 -- `serving::event::reset` meets its contract. Assumes nothing.
 use mathlib.Core.Path.{refl, sym, _∙_}
 use borrow.Author.Tests.{not-true, not-false}
-use mathlib.Core.List.{[]}
-use Rattle.rules.specs.Tables.{lent, others}
+use Rattle.rules.specs.Tables.{lent}
 use Rattle.rules.specs.Events.{resetting}
 use Rattle.rules.proofs.Ladder.{no}
 use Rattle.acts.proofs.Supply.{head-room}
-use Rattle.serving.proofs.Supply.{search-room}
+use Rattle.serving.proofs.Supply.{told-of, search-room}
 use Rattle.serving.proofs.Ends.{number-ends, reset-is}
 use borrow.Author.Needs.{needs}
 use Rattle.serving.proofs.event.reset.Statement.{statement}
@@ -57,7 +56,7 @@ returns-2 c =
     let called = c .before .before .before .before .before .before in
     let whole = called .before .before .before .before in
     let checked = whole .before .before in
-    called .reset .ensures (others _ _ _ _ []) (sym (checked .check .ensures .0) ∙ not-false _ (whole .if1 .left))
+    called .reset .ensures (told-of _ _ _ _ (checked .check .ensures .0)) (sym (checked .check .ensures .0) ∙ not-false _ (whole .if1 .left))
     ∙ reset-is _
 
 pub reset-spec : {M : Type 1} → statement M
