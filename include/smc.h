@@ -254,6 +254,11 @@ typedef struct {
     (t)->head, (t)->head_len, (t)->elements, (t)->elements_len, (t)->tags, (t)->tags_len, (t)->blank, (t)->blank_len,  \
         (t)->generations, (t)->generations_len, (t)->masks, (t)->masks_len, (t)->search, (t)->search_len
 
+/* In a function that was lent SMC_TABLES itself: the same arguments for the call that it makes, smc_reset(SMC_LENT). */
+#define SMC_LENT                                                                                                      \
+    head, head_len, elements, elements_len, tags, tags_len, blank, blank_len, generations, generations_len, masks,    \
+        masks_len, search, search_len
+
 /* ---- Commands. Numbers 1 to 5. */
 
 /* Any command block. The eleven below it answer exactly the same, whatever first byte they are handed. An unknown first byte is

@@ -7,7 +7,6 @@ smc_replayed smc_replay(SMC_TABLES, const uint8_t *log, size_t log_len, uint32_t
 {
     smc_replayed told;
 
-    smc_replay_into(&told, head, head_len, elements, elements_len, tags, tags_len, blank, blank_len, generations, generations_len,
-                    masks, masks_len, search, search_len, log, log_len, expected, budget);
+    smc_replay_into(&told, SMC_LENT, log, log_len, expected, budget);
     return told;
 }

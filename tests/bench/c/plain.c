@@ -163,9 +163,6 @@ static bool search_sound(const library *l)
     return any == 0;
 }
 
-#define LENT                                                                                                                                \
-    head, head_len, elements, elements_len, tags, tags_len, blank, blank_len, generations, generations_len, masks, masks_len, search, search_len
-
 static inline bool read_tables(library *l, SMC_TABLES)
 {
     *l = (library){.head = head, .elements = elements, .tags = tags, .blank = blank, .generations = generations, .masks = masks, .search = search,
@@ -698,7 +695,7 @@ smc_reply plain_command(SMC_TABLES, SMC_COMMAND)
 {
     const request asked = {host, block, parameters, answer, block_len, parameters_len, answer_len, true};
     library here, *l = &here;
-    return read_tables(l, LENT) ? serve(l, &asked) : refused(SMC_TABLES_NOT_SOUND);
+    return read_tables(l, SMC_LENT) ? serve(l, &asked) : refused(SMC_TABLES_NOT_SOUND);
 }
 
 /* ---- the events ---- */
@@ -768,19 +765,19 @@ static smc_reply reset(library *l)
 smc_reply plain_import(SMC_TABLES, uint32_t address, uint32_t volume)
 {
     library here, *l = &here;
-    return read_tables(l, LENT) ? import(l, address, volume) : refused(SMC_TABLES_NOT_SOUND);
+    return read_tables(l, SMC_LENT) ? import(l, address, volume) : refused(SMC_TABLES_NOT_SOUND);
 }
 
 smc_reply plain_export(SMC_TABLES, uint32_t address)
 {
     library here, *l = &here;
-    return read_tables(l, LENT) ? export(l, address) : refused(SMC_TABLES_NOT_SOUND);
+    return read_tables(l, SMC_LENT) ? export(l, address) : refused(SMC_TABLES_NOT_SOUND);
 }
 
 smc_reply plain_reset(SMC_TABLES)
 {
     library here, *l = &here;
-    return read_tables(l, LENT) ? reset(l) : refused(SMC_TABLES_NOT_SOUND);
+    return read_tables(l, SMC_LENT) ? reset(l) : refused(SMC_TABLES_NOT_SOUND);
 }
 
 /* ---- replay ---- */
@@ -849,7 +846,7 @@ smc_replayed plain_replay(SMC_TABLES, const uint8_t *log, size_t log_len, uint32
 {
     library here, *l = &here;
     smc_replayed told = {.expected = expected};
-    if (!read_tables(l, LENT)) {
+    if (!read_tables(l, SMC_LENT)) {
         told.number = SMC_TABLES_NOT_SOUND;
         return told;
     }

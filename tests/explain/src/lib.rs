@@ -1,6 +1,7 @@
 //! `include/smc_explain.h` for the tests: why tables are not sound.
 
 use std::ffi::{c_char, c_int, CStr};
+use std::sync::OnceLock;
 
 use core_ffi::{call_entry, declare_entries, EmptySlices};
 use reference::{Clause, Tables};
@@ -27,49 +28,28 @@ extern "C" {
     fn smc_fault_text(fault: Fault, text: *mut c_char, size: usize) -> c_int;
 }
 
-/// The clauses in the order of `smc_clause`, from 1 on.
-pub const CLAUSES: [Clause; 34] = [
-    Clause::HeadLength,
-    Clause::ElementCount,
-    Clause::TransportCount,
-    Clause::StorageOrImportExport,
-    Clause::EmptyRangeFirst,
-    Clause::RangeWithin,
-    Clause::RangeOverlap,
-    Clause::UnitHolderNumber,
-    Clause::SenseKey,
-    Clause::CodesWithoutKey,
-    Clause::AttentionCodes,
-    Clause::MostVolumes,
-    Clause::TagsLength,
-    Clause::BlankLength,
-    Clause::ElementsLength,
-    Clause::VolumeNumber,
-    Clause::TransportEmpty,
-    Clause::SourceWhereEmpty,
-    Clause::SourceAddress,
-    Clause::MarkPlace,
-    Clause::HolderNumber,
-    Clause::IdWithoutHolder,
-    Clause::UnitHeldAlone,
-    Clause::ZeroByte,
-    Clause::VolumeTwice,
-    Clause::EmptyShelves,
-    Clause::GenerationsLength,
-    Clause::GenerationNumber,
-    Clause::MasksLength,
-    Clause::DriveTakes,
-    Clause::SearchLength,
-    Clause::SearchAction,
-    Clause::SearchType,
-    Clause::SearchNext,
-];
+const HEADER: &str = include_str!("../../../include/smc_explain.h");
+
+/// The clauses in the order of `smc_clause`, from 1 on: the header and the reference name them alike.
+pub fn clauses() -> &'static [Clause] {
+    static CLAUSES: OnceLock<Vec<Clause>> = OnceLock::new();
+    CLAUSES.get_or_init(|| {
+        let words = HEADER.split(|c: char| !c.is_ascii_uppercase() && c != '_');
+        let names = words.filter_map(|word| word.strip_prefix("SMC_CLAUSE_"));
+        names.map(named).collect()
+    })
+}
+
+fn named(name: &str) -> Clause {
+    let meant = Clause::ALL.into_iter().find(|clause| clause.name() == name);
+    meant.unwrap_or_else(|| panic!("the reference has no clause {name}"))
+}
 
 impl Fault {
     /// The clause that fails; none where the tables are sound.
     pub fn clause(&self) -> Option<Clause> {
         let at = (self.clause as usize).checked_sub(1)?;
-        Some(CLAUSES[at])
+        Some(clauses()[at])
     }
 
     /// The whole text.

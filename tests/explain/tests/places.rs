@@ -1,7 +1,7 @@
 //! Each clause broken alone in the small library: the clause, the place and the words.
 
 use differential::scene::Scene;
-use explain::{clause_text, explain, Fault, CLAUSES};
+use explain::{clause_text, clauses, explain, Fault};
 
 fn broken(breaks: impl Fn(&mut Scene)) -> Fault {
     let mut scene = Scene::small_library();
@@ -390,7 +390,7 @@ fn a_number_that_is_no_clause_has_a_text_too() {
         clause_text(34),
         "the next address of a search is at most 10000h"
     );
-    for clause in [CLAUSES.len() as u32 + 1, 1_000, u32::MAX] {
+    for clause in [clauses().len() as u32 + 1, 1_000, u32::MAX] {
         assert_eq!(clause_text(clause), "no clause has this number");
         assert_eq!(fault(clause, 1).text(), "no clause has this number");
     }

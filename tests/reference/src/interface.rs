@@ -108,6 +108,13 @@ impl TableBytes {
         }
     }
 
+    /// One of [`TABLES`].
+    pub fn named(&mut self, name: &str) -> &mut Vec<u8> {
+        let mut each = TABLES.into_iter().zip(self.each());
+        let found = each.find(|(table, _)| *table == name);
+        found.map_or_else(|| panic!("no table {name}"), |(_, bytes)| bytes)
+    }
+
     /// Each of [`TABLES`], to make it longer or shorter or to fill it with something else.
     pub fn each(&mut self) -> [&mut Vec<u8>; TABLES.len()] {
         [

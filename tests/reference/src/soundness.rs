@@ -24,7 +24,7 @@ pub enum Clause {
     HeadLength,
     BlankLength,
     TagsLength,
-    MostVolumes,
+    TagCount,
     GenerationsLength,
     GenerationNumber,
     SearchLength,
@@ -36,20 +36,20 @@ pub enum Clause {
     RangeOverlap,
     ElementCount,
     TransportCount,
-    StorageOrImportExport,
+    NoShelf,
     ElementsLength,
     MasksLength,
     VolumeNumber,
     VolumeTwice,
     ZeroByte,
-    TransportEmpty,
+    TransportFull,
     SourceAddress,
     SourceWhereEmpty,
     MarkPlace,
     DriveTakes,
     HolderNumber,
     IdWithoutHolder,
-    UnitHolderNumber,
+    UnitHolder,
     UnitHeldAlone,
     SenseKey,
     CodesWithoutKey,
@@ -63,7 +63,7 @@ impl Clause {
         Clause::HeadLength,
         Clause::BlankLength,
         Clause::TagsLength,
-        Clause::MostVolumes,
+        Clause::TagCount,
         Clause::GenerationsLength,
         Clause::GenerationNumber,
         Clause::SearchLength,
@@ -75,20 +75,20 @@ impl Clause {
         Clause::RangeOverlap,
         Clause::ElementCount,
         Clause::TransportCount,
-        Clause::StorageOrImportExport,
+        Clause::NoShelf,
         Clause::ElementsLength,
         Clause::MasksLength,
         Clause::VolumeNumber,
         Clause::VolumeTwice,
         Clause::ZeroByte,
-        Clause::TransportEmpty,
+        Clause::TransportFull,
         Clause::SourceAddress,
         Clause::SourceWhereEmpty,
         Clause::MarkPlace,
         Clause::DriveTakes,
         Clause::HolderNumber,
         Clause::IdWithoutHolder,
-        Clause::UnitHolderNumber,
+        Clause::UnitHolder,
         Clause::UnitHeldAlone,
         Clause::SenseKey,
         Clause::CodesWithoutKey,
@@ -96,12 +96,35 @@ impl Clause {
         Clause::EmptyShelves,
     ];
 
+    /// As `include/smc_explain.h` writes it: HEAD_LENGTH.
+    pub fn name(self) -> String {
+        let mut name = String::new();
+        for letter in format!("{self:?}").chars() {
+            if letter.is_uppercase() && !name.is_empty() {
+                name.push('_');
+            }
+            name.push(letter.to_ascii_uppercase());
+        }
+        name
+    }
+
+    /// The table whose length it fixes, whatever the others hold.
+    pub fn length_of(self) -> Option<&'static str> {
+        match self {
+            Clause::HeadLength => Some("head"),
+            Clause::ElementsLength => Some("elements"),
+            Clause::BlankLength => Some("blank"),
+            Clause::SearchLength => Some("search"),
+            _ => None,
+        }
+    }
+
     fn words(self) -> &'static str {
         match self {
             Clause::HeadLength => "head of 60 bytes",
             Clause::BlankLength => "blank label of 36 bytes",
             Clause::TagsLength => "tags of whole labels",
-            Clause::MostVolumes => "V at most 512",
+            Clause::TagCount => "V at most 512",
             Clause::GenerationsLength => "a generation for each volume",
             Clause::GenerationNumber => "each generation 1 to 8",
             Clause::SearchLength => "search of 41 bytes",
@@ -113,20 +136,20 @@ impl Clause {
             Clause::RangeOverlap => "no overlap",
             Clause::ElementCount => "1 to 512 elements",
             Clause::TransportCount => "1 to 127 transports",
-            Clause::StorageOrImportExport => "a storage or import/export element",
+            Clause::NoShelf => "a storage or import/export element",
             Clause::ElementsLength => "8 bytes for each element",
             Clause::MasksLength => "a mask for each drive",
             Clause::VolumeNumber => "volume number at most V",
             Clause::VolumeTwice => "a volume stands at most once",
             Clause::ZeroByte => "the zero byte 0",
-            Clause::TransportEmpty => "transports are empty",
+            Clause::TransportFull => "transports are empty",
             Clause::SourceAddress => "a source is a storage address",
             Clause::SourceWhereEmpty => "source 0 where empty",
             Clause::MarkPlace => "mark only on a full import/export",
             Clause::DriveTakes => "a full drive takes its volume's generation",
             Clause::HolderNumber => "holder at most 8",
             Clause::IdWithoutHolder => "id 0 where there is no holder",
-            Clause::UnitHolderNumber => "unit holder at most 8",
+            Clause::UnitHolder => "unit holder at most 8",
             Clause::UnitHeldAlone => "unit held: no other host holds",
             Clause::SenseKey => "sense key at most 15",
             Clause::CodesWithoutKey => "key 0 has codes 0",
@@ -206,7 +229,7 @@ impl Judge {
         self.require(tables.head.len() == HEAD_LENGTH, Clause::HeadLength)?;
         self.require(tables.blank.len() == Labels::LENGTH, Clause::BlankLength)?;
         self.require(tags.is_multiple_of(Labels::LENGTH), Clause::TagsLength)?;
-        self.require(tags / Labels::LENGTH <= MOST_VOLUMES, Clause::MostVolumes)
+        self.require(tags / Labels::LENGTH <= MOST_VOLUMES, Clause::TagCount)
     }
 
     /// "Bad lengths or entries are number 1."
@@ -296,7 +319,7 @@ impl Judge {
         self.require(few_enough, Clause::ElementCount)?;
         let arms = (1..=MOST_TRANSPORTS).contains(&transports);
         self.require(arms, Clause::TransportCount)?;
-        self.require(shelves >= 1, Clause::StorageOrImportExport)
+        self.require(shelves >= 1, Clause::NoShelf)
     }
 
     fn volumes(&self, elements: &[ElementRecord], most: usize) -> Result<(), Clause> {
@@ -324,7 +347,7 @@ impl Judge {
             .iter()
             .all(|element| element.source == 0 || may_be_source(element.source));
         self.require(every(zero_byte), Clause::ZeroByte)?;
-        self.require(every(transport_empty), Clause::TransportEmpty)?;
+        self.require(every(transport_empty), Clause::TransportFull)?;
         self.require(sources_stand, Clause::SourceAddress)?;
         self.require(every(no_source_where_empty), Clause::SourceWhereEmpty)?;
         self.require(every(mark_in_place), Clause::MarkPlace)
@@ -350,7 +373,7 @@ impl Judge {
         let alone = unit == 0 || elements.iter().all(by_none_but_unit);
         self.require(known, Clause::HolderNumber)?;
         self.require(elements.iter().all(without_id), Clause::IdWithoutHolder)?;
-        self.require(unit <= MOST_HOSTS, Clause::UnitHolderNumber)?;
+        self.require(unit <= MOST_HOSTS, Clause::UnitHolder)?;
         self.require(alone, Clause::UnitHeldAlone)
     }
 

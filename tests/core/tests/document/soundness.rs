@@ -85,7 +85,7 @@ fn v_is_at_most_512_and_may_be_0() {
     expect(&library, Ok(()));
     library.tags = vec![0; 36 * 513];
     library.generations = vec![8; 513];
-    expect(&library, Err(Clause::MostVolumes));
+    expect(&library, Err(Clause::TagCount));
     library.tags.clear();
     library.generations.clear();
     expect(&library, Ok(()));
@@ -154,7 +154,7 @@ fn there_is_a_storage_or_import_export_element() {
     expect(&library_of([(1, 1), (2, 1), (0, 0), (0, 0)]), Ok(()));
     expect(
         &library_of([(1, 1), (0, 0), (0, 0), (2, 1)]),
-        Err(Clause::StorageOrImportExport),
+        Err(Clause::NoShelf),
     );
 }
 
@@ -181,7 +181,7 @@ fn a_volume_number_is_at_most_v_and_stands_once() {
 
 #[test]
 fn transports_are_empty() {
-    expect_broken(Clause::TransportEmpty, |l| {
+    expect_broken(Clause::TransportFull, |l| {
         l.set_element(AT_0001, [0, 3, 0, 0, 0, 0, 0, 0]);
     });
 }
@@ -232,7 +232,7 @@ fn holders_are_at_most_8_and_an_id_needs_one() {
     expect_sound(|l| l.hold(AT_0001, 8, 255));
     expect_broken(Clause::HolderNumber, |l| l.hold(AT_1003, 9, 0));
     expect_broken(Clause::IdWithoutHolder, |l| l.hold(AT_0001, 0, 1));
-    expect_broken(Clause::UnitHolderNumber, |l| l.hold_unit(9));
+    expect_broken(Clause::UnitHolder, |l| l.hold_unit(9));
 }
 
 #[test]

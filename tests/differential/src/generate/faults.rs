@@ -53,7 +53,7 @@ fn suited_scene(random: &mut Random, clause: Clause) -> Scene {
             let transports = random.pick(&[0, 128, 129, 300]);
             sound::quiet_scene_with(random, [transports, few, 1, 1])
         }
-        Clause::StorageOrImportExport => sound::quiet_scene_with(random, [few, 0, 0, few]),
+        Clause::NoShelf => sound::quiet_scene_with(random, [few, 0, 0, few]),
         _ if random.percent(8) => sound::full_scene(random),
         _ => sound::scene(random),
     }
@@ -62,20 +62,17 @@ fn suited_scene(random: &mut Random, clause: Clause) -> Scene {
 /// None where these tables give no room for the fault.
 fn break_clause(random: &mut Random, scene: &mut Scene, clause: Clause) -> Option<()> {
     match clause {
-        Clause::HeadLength => wrong_length(random, &mut scene.tables.head, 1),
-        Clause::BlankLength => wrong_length(random, &mut scene.tables.blank, 1),
         Clause::TagsLength => {
             wrong_length(random, &mut scene.tables.tags, 36);
             as_many_generations(random, scene);
         }
-        Clause::MostVolumes => {
+        Clause::TagCount => {
             let labels = random.pick(&[513, 514, 600]);
             scene.tables.tags.resize(36 * labels, 0x20);
             as_many_generations(random, scene);
         }
         Clause::GenerationsLength => other_length(random, &mut scene.tables.generations),
         Clause::GenerationNumber => wrong_generation(random, scene)?,
-        Clause::SearchLength => wrong_length(random, &mut scene.tables.search, 1),
         Clause::SearchAction | Clause::SearchType | Clause::SearchNext => {
             wrong_search(random, scene, clause);
         }
@@ -89,19 +86,21 @@ fn break_clause(random: &mut Random, scene: &mut Scene, clause: Clause) -> Optio
             empty_mostly(random, scene);
         }
         Clause::ElementCount => no_elements_at_all(random, scene),
-        Clause::TransportCount | Clause::StorageOrImportExport => {}
-        Clause::ElementsLength => wrong_length(random, &mut scene.tables.elements, 1),
+        Clause::TransportCount | Clause::NoShelf => {}
         Clause::MasksLength => other_length(random, &mut scene.tables.masks),
         Clause::DriveTakes => wrong_cartridge(random, scene)?,
         Clause::HolderNumber
         | Clause::IdWithoutHolder
-        | Clause::UnitHolderNumber
+        | Clause::UnitHolder
         | Clause::UnitHeldAlone => break_holders(random, scene, clause)?,
         Clause::EmptyShelves => break_number(random, scene),
         Clause::SenseKey | Clause::CodesWithoutKey | Clause::AttentionCodes => {
             break_host(random, scene, clause);
         }
-        _ => break_element(random, scene, clause)?,
+        _ => match clause.length_of() {
+            Some(table) => wrong_length(random, scene.tables.named(table), 1),
+            None => break_element(random, scene, clause)?,
+        },
     }
     Some(())
 }
@@ -315,7 +314,7 @@ fn break_element(random: &mut Random, scene: &mut Scene, clause: Clause) -> Opti
     let is_empty = |_, volume| volume == 0;
     let places = match clause {
         Clause::VolumeNumber | Clause::VolumeTwice => scene.places_where(is_place),
-        Clause::TransportEmpty => scene.places_where(|kind, _| kind == Kind::Transport),
+        Clause::TransportFull => scene.places_where(|kind, _| kind == Kind::Transport),
         Clause::SourceAddress => scene.places_where(is_full),
         Clause::SourceWhereEmpty => scene.places_where(is_empty),
         _ => scene.places_where(|_, _| true),
@@ -333,7 +332,7 @@ fn break_element(random: &mut Random, scene: &mut Scene, clause: Clause) -> Opti
             let twin = any_of(random, &others).filter(|&twin| twin != place)?;
             scene.set_volume(place, scene.volume(twin));
         }
-        Clause::TransportEmpty => scene.set_volume(place, scene.absent_volume()?),
+        Clause::TransportFull => scene.set_volume(place, scene.absent_volume()?),
         Clause::SourceAddress => {
             let source = wrong_source(random, scene)?;
             scene.set_source(place, source);
@@ -412,7 +411,7 @@ fn break_holders(random: &mut Random, scene: &mut Scene, clause: Clause) -> Opti
             scene.hold_unit(0);
             scene.hold(place, too_high, 0);
         }
-        Clause::UnitHolderNumber => {
+        Clause::UnitHolder => {
             all.iter().for_each(|&place| scene.hold(place, 0, 0));
             scene.hold_unit(too_high);
         }
