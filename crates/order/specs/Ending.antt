@@ -38,7 +38,7 @@ reason declared.SourceEmpty = SourceEmpty
 reason declared.DestinationFull = DestinationFull
 reason declared.IncompatibleMedium = IncompatibleMedium
 
--- all that is lent beside head and elements, from the slices: a further table is one more field
+-- the labels of the rest are those that are lent
 pub record Lends (rest : Rest) (tags blank : List ℕ) : Type 0 where
   pub tags-is : rest .tags ≡ tags
   pub blank-is : rest .blank ≡ blank

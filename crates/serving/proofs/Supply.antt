@@ -1,4 +1,4 @@
--- What sound tables supply to the events. Assumes nothing.
+-- The rest of the tables that were checked, and what sound ones supply to the events. Assumes nothing.
 use Prim.Native.Nat.{ℕ}
 use mathlib.Core.Path.{_≡_, refl}
 use mathlib.Core.Bool.{Bool, true}
