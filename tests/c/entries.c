@@ -344,8 +344,12 @@ static void mode_of_many_transports(void)
         put16(arms_head + 4, 1 + count);
         put16(arms_head + 6, 1);
         put16(arms_head + SMC_HEAD_FREE, 1);
-        smc_reply reply = smc_mode_sense(arms_head, SMC_HEAD_SIZE, arms, (count + 1) * SMC_ELEMENT_SIZE, tags, 3 * SMC_TAG_SIZE,
-                                         blank, SMC_TAG_SIZE, generations, 3, NULL, 0, search, SMC_SEARCH_SIZE, 1, block, 6, NULL, 0, answer, 512);
+        smc_tables many = lent;
+        many.head = arms_head;
+        many.elements = arms;
+        many.elements_len = (count + 1) * SMC_ELEMENT_SIZE;
+        many.masks_len = 0;
+        smc_reply reply = smc_mode_sense(SMC_LEND(&many), 1, block, 6, NULL, 0, answer, 512);
         ended("mode, many transports", reply, rows[i].status, rows[i].count);
         expect(arms_head[SMC_HOST_AT(1)] == (rows[i].status == SMC_GOOD ? 0 : 5), "mode, many transports", "another sense");
         if (rows[i].page == 0x1E && rows[i].count > 0)
