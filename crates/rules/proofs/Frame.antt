@@ -195,6 +195,7 @@ change-comm ss h g N M n a (OfHead c) (OfHead d) l m t =
     ap (λ (head : List ℕ). lent head t.elements t.rest)
     (local-comm (OfHost h) (OfHost g) (λ j x y. omega arith) (in_head c) (in_head d) l m t.head)
 change-comm ss h g N M n a (OfHead c) (OfElements d) l m t = refl
+change-comm ss h g N M n a (OfHead c) (OfSearch d) l m t = elim m [ ]
 change-comm ss h g N M n a (OfHead c) Recount l m t = absurd m
 change-comm ss h g N M n a (OfElements c) (OfHead d) l m t = refl
 change-comm ss h g N M n a (OfElements c) (OfElements d) l m t =
@@ -204,7 +205,9 @@ change-comm ss h g N M n a (OfElements c) (OfElements d) l m t =
     let w : place_of ss b ≢ place_of ss b' = place-apart ss b b' (λ q. a b y (Memᴰ.cast q y')) k' in
     omega arith)
     (in_elements c) (in_elements d) l m t.elements)
+change-comm ss h g N M n a (OfElements c) (OfSearch d) l m t = elim m [ ]
 change-comm ss h g N M n a (OfElements c) Recount l m t = absurd m
+change-comm ss h g N M n a (OfSearch c) d l m t = elim l [ ]
 change-comm ss h g N M n a Recount d l m t = absurd l
 
 changes-past : (ss : List Slot) (h g : ℕ) (N M : List ℕ) → h ≢ g → Disjoint N M → (c : Change) (ds : List Change)
@@ -228,6 +231,7 @@ recount-again : (ss : List Slot) (h : ℕ) (N : List ℕ) → 1 ≤ h → h ≤ 
     → change Recount (change c (change Recount t)) ≡ change Recount (change c t)
 recount-again ss h N o k (OfHead c) l t = ap (change Recount) (recount-past h o k c l t) ∙ recount-twice (change (OfHead c) t)
 recount-again ss h N o k (OfElements c) l t = recount-elements c t
+recount-again ss h N o k (OfSearch c) l t = elim l [ ]
 recount-again ss h N o k Recount l t = absurd l
 
 recounts-again : (ss : List Slot) (h : ℕ) (N : List ℕ) → 1 ≤ h → h ≤ hosts → (cs : List Change) → AllMine ss h N cs → (t : Tables)
@@ -246,6 +250,7 @@ unfolding changes
 own-past h o k [] m t = refl
 own-past h o k (OfHead c ∷ cs) (m, ms) t = ap (changes cs) (recount-past h o k c m t) ∙ own-past h o k cs ms (change (OfHead c) t)
 own-past h o k (OfElements c ∷ cs) (m, ms) t = absurd m
+own-past h o k (OfSearch c ∷ cs) (m, ms) t = absurd m
 own-past h o k (Recount ∷ cs) (m, ms) t = absurd m
 
 module _ (ss : List Slot) (h g : ℕ) (N M : List ℕ) (n : h ≢ g) (a : Disjoint N M) (o : 1 ≤ h) (k : h ≤ hosts) where

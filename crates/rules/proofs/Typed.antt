@@ -62,6 +62,7 @@ among-sorted s (r ∷ rs) (inl e) = among-inserted s r (sorted rs) (inl e)
 among-sorted s (r ∷ rs) (inr m) = among-inserted s r (sorted rs) (inr (among-sorted s rs m))
 
 pub each-among : (P : Range → Type 0) (s : Range) (rs : List Range) → Among s rs → Each P rs → P s
+each-among P s [] m ps = elim m [ ]
 each-among P s (r ∷ rs) (inl e) ps = rw e ps.0
 each-among P s (r ∷ rs) (inr m) ps = each-among P s rs m ps.1
 
@@ -74,6 +75,7 @@ pub record Counted (ss : List Slot) (s : Range) (i : ℕ) : Type 0 where
 
 counted : (s : Range) (rs : List Range) (q i : ℕ) → Among s rs → Pairs Before rs → i < s.count → Counted (spread q rs) s i
 unfolding spread
+counted s [] q i m b h = elim m [ ]
 counted s (r ∷ rs) q i (inl e) b h = rw e (go (rw e at h))
   where
     rest : List Slot
