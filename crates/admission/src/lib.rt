@@ -7,7 +7,7 @@ ghost use Rattle.admission.specs.Admitting.{meets_attention, reach_of, others_ho
 use operation::Operation;
 
 // What a command meets: attention of its host, what another holds, a field of the block that is at fault, at its byte; or nothing.
-#[derive(Drop)]
+#[derive(Clone, Copy)]
 pub enum Admission {
     Pending,
     Held,
@@ -16,7 +16,7 @@ pub enum Admission {
 }
 
 // How far step 3 looks for what another host holds.
-#[derive(Drop)]
+#[derive(Clone, Copy)]
 enum Reach {
     Nothing,
     Unit,

@@ -2,7 +2,7 @@
 use case_rooms::{Effect, State};
 use case_script::{Line, Reading, class, word};
 
-#[derive(Drop)]
+#[derive(Clone, Copy)]
 pub enum Task {
     // the line is blank, or can't be read, or is of no case, or begins one
     Nothing,

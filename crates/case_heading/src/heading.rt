@@ -3,7 +3,7 @@ ghost use Rattle.std.specs.Prelude.{◌≤◌, length};
 
 use case_text::{GAP, HASH, WORD, find, is_blank, same};
 
-#[derive(Drop)]
+#[derive(Clone, Copy)]
 pub enum Heading {
     // the line begins no case
     Nothing,

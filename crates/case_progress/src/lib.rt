@@ -4,7 +4,7 @@ use case_script::{Line, Reading, class, fault, word};
 use case_telling::Run;
 
 // The run, and what its case has come to.
-#[derive(Drop)]
+#[derive(Clone, Copy)]
 pub struct Progress {
     pub run: Run,
     pub state: State,

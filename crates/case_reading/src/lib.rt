@@ -26,7 +26,7 @@ fn unread(run: Run, path: &[u8], why: &[u8]) -> Run {
     r
 }
 
-#[derive(Drop)]
+#[derive(Clone, Copy)]
 pub enum Got {
     Whole(usize),
     TooLong,

@@ -100,7 +100,7 @@ pub fn untouched(xs: &[u8]) -> usize
 }
 
 // The log of a case: how long it is; and whether it was replayed, where the next `resume` goes on, and with which number.
-#[derive(Drop)]
+#[derive(Clone, Copy)]
 pub struct Log {
     pub length: usize,
     pub begun: bool,
@@ -109,7 +109,7 @@ pub struct Log {
 }
 
 // What a replay ended with.
-#[derive(Drop)]
+#[derive(Clone, Copy)]
 pub struct Replayed {
     pub number: u32,
     pub lines: u32,
@@ -118,7 +118,7 @@ pub struct Replayed {
 }
 
 // What a case has come to; the tables themselves stand in the room.
-#[derive(Drop)]
+#[derive(Clone, Copy)]
 pub struct State {
     // how long the tables are, by their numbers
     pub sizes: [usize; parts::TABLES],
@@ -138,7 +138,7 @@ pub struct State {
 }
 
 // Where something is not as expected. `what` is the word that asked, but for `kept` that of the table; `at` is the byte, where bytes were compared.
-#[derive(Drop)]
+#[derive(Clone, Copy)]
 pub struct Difference {
     pub what: u8,
     pub at: usize,
@@ -146,7 +146,7 @@ pub struct Difference {
     pub expected: u32,
 }
 
-#[derive(Drop)]
+#[derive(Clone, Copy)]
 pub enum Finding {
     // set up or called; nothing was asked
     Done,
@@ -157,7 +157,7 @@ pub enum Finding {
 }
 
 // What a line does: what the case has come to behind it, and what was found.
-#[derive(Drop)]
+#[derive(Clone, Copy)]
 pub struct Effect {
     pub state: State,
     pub finding: Finding,

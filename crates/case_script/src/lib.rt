@@ -15,7 +15,7 @@ use case_text::number::Number;
 use case_text::{GAP, HASH, WORD, find, same};
 
 // What a line says. The bytes that it gives stand at the front of the buffer.
-#[derive(Drop)]
+#[derive(Clone, Copy)]
 pub struct Line {
     // `set` stood before the word
     pub set: bool,
@@ -30,7 +30,7 @@ pub struct Line {
     pub to: usize,
 }
 
-#[derive(Drop)]
+#[derive(Clone, Copy)]
 pub enum Reading {
     // nothing but blanks or a comment
     Blank,
@@ -40,7 +40,7 @@ pub enum Reading {
 }
 
 // A number, and where its word ends; or why there is none, and where it should begin.
-#[derive(Drop)]
+#[derive(Clone, Copy)]
 enum Taken {
     Took(u32, usize),
     Missing(u8, usize),

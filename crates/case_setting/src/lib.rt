@@ -5,7 +5,7 @@ use case_setup::table;
 use tables::{Found, Types};
 
 // Whether something could be set, or why not.
-#[derive(Drop)]
+#[derive(Clone, Copy)]
 pub enum Put {
     Done,
     Fault(u8),

@@ -3,7 +3,7 @@ use case_rooms::{Effect, State, parts};
 use case_script::fault;
 
 // The new length of a table, or why it can't have it.
-#[derive(Drop)]
+#[derive(Clone, Copy)]
 pub enum Length {
     Is(usize),
     Fault(u8),

@@ -5,7 +5,7 @@ use case_rooms::{Difference, Finding};
 use case_script::Line;
 
 // The run so far: how many cases passed and failed, the line's number, and the case that the lines are of.
-#[derive(Drop)]
+#[derive(Clone, Copy)]
 pub struct Run {
     pub passed: u64,
     pub failed: u64,

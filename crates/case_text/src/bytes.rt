@@ -7,21 +7,21 @@ ghost use Rattle.case_text.specs.Bytes.{byte_of, times_of, run_of, all, and_then
 use crate::number::{Number, digit, value};
 use crate::{BREAK, BYTE, STAR, fault, find};
 
-#[derive(Drop)]
+#[derive(Clone, Copy)]
 pub enum Byte {
     Value(u8),
     NoByte,
 }
 
 // A byte, so many times.
-#[derive(Drop)]
+#[derive(Clone, Copy)]
 pub enum Run {
     Times(u8, usize),
     NoRun(u8),
 }
 
 // How many bytes there are; or why one can not be read, and where.
-#[derive(Drop)]
+#[derive(Clone, Copy)]
 pub enum Bytes {
     Count(usize),
     Stop(u8, usize),

@@ -9,7 +9,7 @@ const LARGEST: u64 = 4294967295;
 // More than any digit.
 const NONE: u8 = 255;
 
-#[derive(Drop)]
+#[derive(Clone, Copy)]
 pub enum Number {
     Is(u32),
     Bad(u8),

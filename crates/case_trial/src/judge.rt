@@ -16,7 +16,7 @@ const HOSTS: u32 = layout::HOSTS as u32;
 const LARGEST: usize = 4294967295;
 
 // A value that a line asks for, or why there is none.
-#[derive(Drop)]
+#[derive(Clone, Copy)]
 pub enum Value {
     Is(u32),
     Missing(u8),

@@ -4,7 +4,7 @@ ghost use Rattle.rules.specs.Tables.{element_size, element_at, theirs, freed_at,
 ghost use Rattle.frees.specs.Freed.{whose};
 
 // Whose elements are freed.
-#[derive(Drop)]
+#[derive(Clone, Copy)]
 pub enum Whose {
     Under(u8, u8),
     Every(u8),

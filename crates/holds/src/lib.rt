@@ -16,7 +16,7 @@ use order::{Cause, Reply};
 use tables::Range;
 
 // What a RESERVE of elements comes to: refused for a cause, a conflict, or that those named are held.
-#[derive(Drop)]
+#[derive(Clone, Copy)]
 pub enum Ruling {
     Refused(Cause),
     Conflict,

@@ -13,7 +13,7 @@ ghost use Rattle.listing.specs.Plan.{suits, fits_in, room_behind};
 ghost use Rattle.listing.specs.Counting.{Inside, Listable, Readable, Answers, Small, asked, chosen_at, part_of, lead_of, next_of, step_by, step_of, step_bytes, counted, added, outset, Within, listed, passed as passed_by};
 
 // What a host asks for: tags, type code, start; and the action that the header tells, which READ ELEMENT STATUS has none of.
-#[derive(Drop)]
+#[derive(Clone, Copy)]
 pub struct Query {
     pub tagged: bool,
     pub code: u8,
@@ -23,7 +23,7 @@ pub struct Query {
 
 // Where a listing stands between two ranges: the place of the next element, how many may still be chosen, the room that is left and where
 // the next byte goes; and so far the number chosen, the bytes of all their pages, the first address chosen and the one behind the last told whole.
-#[derive(Drop)]
+#[derive(Clone, Copy)]
 pub struct Tally {
     pub place: usize,
     pub left: usize,
@@ -36,7 +36,7 @@ pub struct Tally {
 }
 
 // What is chosen of a range: how many, how many of those fit, and how far the range reaches to the first chosen and to the last that fits.
-#[derive(Drop)]
+#[derive(Clone, Copy)]
 pub struct Part {
     pub n: usize,
     pub m: usize,
@@ -45,7 +45,7 @@ pub struct Part {
 }
 
 // What a listing hands back, and the address behind the last element that it tells whole.
-#[derive(Drop)]
+#[derive(Clone, Copy)]
 pub struct Told {
     pub reply: order::Reply,
     pub next: usize,

@@ -10,14 +10,14 @@ use order::Cause;
 use tables::{Found, Range, Types};
 
 // The elements that a descriptor names: the first place, and the one behind the last.
-#[derive(Drop)]
+#[derive(Clone, Copy)]
 pub struct Span {
     pub first: usize,
     pub end: usize,
 }
 
 // What a descriptor names, or why it is refused.
-#[derive(Drop)]
+#[derive(Clone, Copy)]
 pub enum Named {
     Wrong(Cause),
     Elements(Span),

@@ -15,14 +15,14 @@ use log_line::Read;
 use tables::Range;
 
 // Whether a line was applied, and then how many bytes it takes with its line feed.
-#[derive(Drop)]
+#[derive(Clone, Copy)]
 pub enum Turned {
     Stopped,
     Applied(usize),
 }
 
 // What a line of host 0 records.
-#[derive(Drop)]
+#[derive(Clone, Copy)]
 enum Event {
     Nothing,
     Import(u16, u16),

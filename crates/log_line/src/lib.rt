@@ -7,7 +7,7 @@ ghost use Rattle.log_line.specs.Rungs.{here, after_host, after_number, first_lin
 ghost use Rattle.log_line.specs.Read.{meant, Room, Within};
 
 // A line of the form, with its bytes at the front of two rooms, and its line feed at `end`; or another form.
-#[derive(Drop)]
+#[derive(Clone, Copy)]
 pub enum Read {
     Other,
     Entry {
@@ -20,14 +20,14 @@ pub enum Read {
 }
 
 // The number that a text begins with, and where the tab behind it stands; 0 for what is none.
-#[derive(Drop)]
+#[derive(Clone, Copy)]
 struct Sequence {
     value: u32,
     end: usize,
 }
 
 // Where the mark behind a field stands, if the field has its form.
-#[derive(Drop)]
+#[derive(Clone, Copy)]
 enum Field {
     To(usize),
     Bad,

@@ -37,7 +37,7 @@ const THESE: u8 = 0x0E;
 const NONE: u8 = 0x00;
 
 // What MODE SENSE comes to: house number 5, or so many bytes.
-#[derive(Drop)]
+#[derive(Clone, Copy)]
 pub enum Ruling {
     Short,
     Tell(usize),

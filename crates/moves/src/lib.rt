@@ -14,7 +14,7 @@ use tables::{Found, Range, Spot};
 const DRIVES: usize = 3 * layout::RANGE_SIZE;
 
 // What a command comes to: types and places of the elements to carry from and to with the volumes that stand there, a refusal with its cause, or a conflict.
-#[derive(Drop)]
+#[derive(Clone, Copy)]
 pub enum Ruling {
     Move {
         from: Spot,

@@ -4,7 +4,7 @@ ghost use Rattle.rules.specs.Operation.{decoded};
 ghost use Rattle.operation.specs.Meaning.{meaning};
 
 // "Eight commands", MODE SENSE, the two of the search, and any "Other first byte".
-#[derive(Drop)]
+#[derive(Clone, Copy)]
 pub enum Operation {
     TestUnitReady,
     RequestSense,

@@ -21,7 +21,7 @@ const ILLEGAL_REQUEST: u8 = 5;
 pub const UNIT_ATTENTION: u8 = 6;
 
 // Why a command is refused with key 5; a field of the block that is at fault, with its byte.
-#[derive(Drop)]
+#[derive(Clone, Copy)]
 pub enum Cause {
     InvalidOperation,
     InvalidField(usize),
@@ -35,7 +35,7 @@ pub enum Cause {
 
 // What a call hands back beside the tables and the answer buffer.
 #[repr(C)]
-#[derive(Drop)]
+#[derive(Clone, Copy)]
 pub struct Reply {
     pub number: u8,
     pub status: u8,

@@ -9,7 +9,7 @@ use tables::{Found, Range, Types};
 
 // What import or export comes to: a house number, number 7 with how many hosts prevent removal and the lowest such host, or an element
 // to fill with a volume (0 empties it) and a mark.
-#[derive(Drop)]
+#[derive(Clone, Copy)]
 pub enum Ruling {
     Number(u8),
     Prevented(u8, u8),

@@ -4,7 +4,7 @@ ghost use Rattle.rules.specs.Bytes.{put};
 ghost use Rattle.record.specs.Sense.{sense_of, sense_at, bytes_of};
 
 // "sense key, ASC, ASCQ". What else a host's bytes hold stands beside it.
-#[derive(Drop)]
+#[derive(Clone, Copy)]
 pub struct Sense {
     pub key: u8,
     pub asc: u8,

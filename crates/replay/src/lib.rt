@@ -13,7 +13,7 @@ use tables::Range;
 
 // What a call ends with: house number 0, 1 or 10, lines applied, bytes that they take, the number expected next.
 #[repr(C)]
-#[derive(Drop)]
+#[derive(Clone, Copy)]
 pub struct Replayed {
     pub number: u32,
     pub lines: u32,

@@ -15,7 +15,7 @@ use order::Reply;
 const WHOLE: usize = 18;
 
 // What REQUEST SENSE comes to: house number 5, or so many bytes of the attention or of the sense stored.
-#[derive(Drop)]
+#[derive(Clone, Copy)]
 pub enum Ruling {
     Short,
     Attention(usize),

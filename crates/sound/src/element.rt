@@ -115,7 +115,7 @@ fn fits(shelves: Range, unit: u8, last: usize, kind: u8, elements: &[u8], p: usi
 }
 
 // What the places of a run tell: all are sound, and so many are empty; or one is not.
-#[derive(Drop)]
+#[derive(Clone, Copy)]
 enum Pass {
     Sound(usize),
     Broken,

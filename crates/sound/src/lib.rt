@@ -80,7 +80,7 @@ fn rest_sound(tags: &[u8], blank: &[u8], generations: &[u8], search: &[u8]) -> b
 }
 
 // What the check tells, and the runs of sound tables, which callers look up by.
-#[derive(Drop)]
+#[derive(Clone, Copy)]
 pub struct Checked {
     pub sound: bool,
     pub runs: [Range; 4],

@@ -12,7 +12,7 @@ ghost use Rattle.tables.specs.Ranges.{meaning, meant, laid, inserted, lies, lead
 ghost use Rattle.tables.specs.LookUp.{admits, found, spot, spot_of};
 
 // "each first address and count": of one type
-#[derive(Drop)]
+#[derive(Clone, Copy)]
 pub struct Range {
     pub kind: u8,
     pub first: u16,
@@ -20,14 +20,14 @@ pub struct Range {
 }
 
 // An element's type and place.
-#[derive(Drop)]
+#[derive(Clone, Copy)]
 pub struct Spot {
     pub kind: u8,
     pub place: usize,
 }
 
 // Of which types an element is looked for: any, a transport, an import/export element.
-#[derive(Drop)]
+#[derive(Clone, Copy)]
 pub enum Types {
     Any,
     Transport,
@@ -35,7 +35,7 @@ pub enum Types {
 }
 
 // What looking an address up answers.
-#[derive(Drop)]
+#[derive(Clone, Copy)]
 pub enum Found {
     At(usize),
     Nothing,
