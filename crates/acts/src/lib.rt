@@ -1,4 +1,6 @@
 // What each command does from step 5 on, for tables that suit, as sound ones do, a host from 1 to 8, a block of its length and no fault in it.
+#![tactic(auto)]
+
 ghost use Rattle.std.specs.Prelude.{◌≡◌};
 ghost use Rattle.rules.specs.Tables.{Rest, lent, searching};
 ghost use Rattle.rules.specs.Order.{outcome, fits};

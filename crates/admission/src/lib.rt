@@ -1,4 +1,6 @@
 // What a command meets before it is carried out, judged by reading only: steps 1 to 4. Step 4 has a crate of its own.
+#![tactic(auto)]
+
 ghost use Rattle.std.specs.Prelude.{◌≡◌, ◌≤◌, length};
 ghost use Rattle.rules.specs.Tables.{head_size, hosts};
 ghost use Rattle.operation.specs.Meaning.{meaning, Fitting};

@@ -1,4 +1,6 @@
 // "Any free arm": which transport a MOVE or EXCHANGE uses, and where it stands.
+#![tactic(auto)]
+
 ghost use Rattle.std.specs.Prelude.{◌≡◌, ◌+◌, ◌<◌, ◌≤◌, length, eqb};
 ghost use Rattle.rules.specs.Choice.{when};
 ghost use Rattle.rules.specs.Tables.{places, holder};

@@ -1,4 +1,6 @@
 // The calls: a command, or one of the three events.
+#![tactic(auto)]
+
 ghost use Rattle.std.specs.Prelude.{◌≡◌, length, take};
 ghost use Rattle.order.specs.Ending.{ended};
 ghost use Rattle.case_rooms.specs.Parts.{part as part_of, parameters_at};

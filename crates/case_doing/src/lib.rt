@@ -1,4 +1,6 @@
 // What a line of a case asks to be done; and all of it that makes no call of the core.
+#![tactic(auto)]
+
 use case_rooms::{Effect, State};
 use case_script::{Line, Reading, class, word};
 

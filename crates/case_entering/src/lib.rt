@@ -1,4 +1,6 @@
 // How a case enters the core: by the entry that its line names. What that leaves is the rules' own outcome.
+#![tactic(auto)]
+
 ghost use Rattle.std.specs.Prelude.{◌≡◌, [], length};
 ghost use Rattle.rules.specs.Tables.{lent, others};
 ghost use Rattle.order.specs.Ending.{ended};

@@ -1,4 +1,6 @@
 // The lines that begin a case, good and bad.
+#![tactic(auto)]
+
 mod heading;
 
 ghost use Rattle.std.specs.Prelude.{◌≤◌, ◌<◌, ◌+◌, length};

@@ -1,4 +1,6 @@
 // Around a call: what it is given, what is kept from before it, what it left, and the state after it.
+#![tactic(auto)]
+
 ghost use Rattle.std.specs.Prelude.{◌≡◌};
 ghost use Rattle.case_rooms.specs.Alike.{past_count};
 

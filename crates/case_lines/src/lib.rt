@@ -1,4 +1,6 @@
 // The lines of a case file, one by one: what each does to the tables and the calls.
+#![tactic(auto)]
+
 use case_progress::Progress;
 use case_rooms::parts;
 use case_telling::Run;

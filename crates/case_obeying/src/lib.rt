@@ -1,4 +1,6 @@
 // What a line of a case asks for, carried out: a call of the core, a replay, or what needs neither.
+#![tactic(auto)]
+
 use case_doing::Task;
 use case_rooms::{Effect, State};
 

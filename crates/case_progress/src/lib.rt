@@ -1,4 +1,6 @@
 // What the lines of a file come to, one behind the other. A line that says something has been obeyed when it comes here; it is told.
+#![tactic(auto)]
+
 use case_rooms::{Effect, Finding, State};
 use case_script::{Line, Reading, class, fault, word};
 use case_telling::Run;

@@ -1,4 +1,6 @@
 // A file read whole, or told as one that has failed; and the end of a run.
+#![tactic(auto)]
+
 ghost use Rattle.std.specs.Prelude.{◌≡◌, length};
 
 use case_telling::Run;

@@ -1,4 +1,6 @@
 // The replays of a case's log.
+#![tactic(auto)]
+
 ghost use Rattle.std.specs.Prelude.{◌≡◌};
 ghost use Rattle.rules.specs.Tables.{lent};
 ghost use Rattle.rules.specs.Replay.{replay as replayOf};

@@ -1,4 +1,6 @@
 // What a case has come to, and the room that its tables, parameters, log and answers stand in.
+#![tactic(auto)]
+
 pub mod parts;
 
 ghost use Rattle.std.specs.Prelude.{◌≡◌, ◌≤◌, min, length, replicate};

@@ -1,4 +1,6 @@
 // The lines of a case file: what a line says, or why it can not be read.
+#![tactic(auto)]
+
 pub mod class;
 pub mod fault;
 mod name;

@@ -1,4 +1,6 @@
 // `set`: "stores what the same line without `set` asks for".
+#![tactic(auto)]
+
 use case_rooms::{Effect, State, parts};
 use case_script::{Line, class, fault, word};
 use case_setup::table;

@@ -1,3 +1,5 @@
 // The lines that make the tables.
+#![tactic(auto)]
+
 pub mod build;
 pub mod table;

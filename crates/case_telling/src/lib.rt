@@ -1,4 +1,6 @@
 // The beginning and the end of a case, and what its lines come to.
+#![tactic(auto)]
+
 pub mod faults;
 
 use case_rooms::{Difference, Finding};

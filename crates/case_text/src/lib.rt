@@ -1,4 +1,6 @@
 // The words of a line: where they begin and end, and the numbers, bytes and text that they write.
+#![tactic(auto)]
+
 pub mod bytes;
 pub mod fault;
 pub mod letters;

@@ -1,4 +1,6 @@
 // What is printed: names, numbers, differences.
+#![tactic(auto)]
+
 ghost use Rattle.std.specs.Prelude.{◌≤◌, length};
 
 use case_rooms::Difference;

@@ -1,4 +1,6 @@
 // Runs the case files that it is named, one after the other, and prints a line for each case.
+#![tactic(auto)]
+
 use case_reading::Got;
 use case_telling::Run;
 

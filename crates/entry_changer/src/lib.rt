@@ -2,6 +2,8 @@
 // that it is lent: any bytes, any lengths, any numbers. Its statement stands in crates/entries. What a caller owes beside (valid slices that do not overlap, one call at a
 // time) stands in include/smc.h. The other entries stand in crates/entry_primary and crates/entry_panel: a static library has the entries of one crate, and bin/library joins
 // three.
+#![tactic(auto)]
+
 ghost use Rattle.rules.specs.Tables.{lent, others};
 ghost use Rattle.entries.specs.OnlyOne.{CommandEnds};
 

@@ -1,5 +1,7 @@
 // The entries for the operator's three events, each one call of `serving`, and for the replay of a log. As those of crates/entry_changer they ask nothing of what they are lent,
 // and have their statements in crates/entries.
+#![tactic(auto)]
+
 ghost use Rattle.std.specs.Prelude.{[]};
 ghost use Rattle.rules.specs.Tables.{lent, others};
 ghost use Rattle.entries.specs.OnlyOne.{ImportEnds, ExportEnds, ResetEnds, ReplayEnds};

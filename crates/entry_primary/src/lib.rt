@@ -1,5 +1,7 @@
 // The entries for the commands that other devices have too: readiness, sense, what a host holds or prevents, mode pages. As those of crates/entry_changer each is one call of
 // `serving`, asks nothing of what it is lent, and has its statement in crates/entries.
+#![tactic(auto)]
+
 ghost use Rattle.rules.specs.Tables.{lent, others};
 ghost use Rattle.entries.specs.OnlyOne.{CommandEnds};
 

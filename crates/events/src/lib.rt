@@ -1,4 +1,6 @@
 // The three events: import, export and reset. House number 1 is judged before they are called; numbers 6 to 9 in a crate of their own.
+#![tactic(auto)]
+
 ghost use Rattle.std.specs.Prelude.{◌≡◌, true, List, [], ℕ, ◌≤◌, length};
 ghost use Rattle.rules.specs.Tables.{head_size, search_size, hosts, places, lent, searching, changes, announced_to, announced, Rest};
 ghost use Rattle.rules.specs.Sound.{sound};

@@ -1,4 +1,6 @@
 // REQUEST VOLUME ELEMENT ADDRESS: the listing of what the search finds, which then goes on behind the last element told.
+#![tactic(auto)]
+
 ghost use Rattle.std.specs.Prelude.{◌≡◌};
 ghost use Rattle.rules.specs.Tables.{Rest, lent, searching};
 ghost use Rattle.rules.specs.Order.{outcome, fits, after};

@@ -1,5 +1,7 @@
 // "Wrong cartridge, wrong drive": whether a drive takes a volume, by the generations and the masks as they are lent. Every function here takes any tables and
 // any numbers: a byte behind the end of a table reads as 0.
+#![tactic(auto)]
+
 ghost use Rattle.std.specs.Prelude.{◌≡◌, ◌-◌};
 ghost use Rattle.rules.specs.Bytes.{byte};
 ghost use Rattle.rules.specs.Fitting.{accepts};

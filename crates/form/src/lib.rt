@@ -1,4 +1,6 @@
 // Step 4, for all commands: where the block is at fault.
+#![tactic(auto)]
+
 ghost use Rattle.std.specs.Prelude.{◌≡◌, List, ℕ, ◌+◌, ◌≤◌, length};
 ghost use Rattle.rules.specs.Tables.{head_size};
 ghost use Rattle.rules.specs.Operation.{Reserve, ModeSense, SendVolumeTag};

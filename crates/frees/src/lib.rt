@@ -1,4 +1,6 @@
 // Elements freed: a host's of one id, all of a host's, everyone's.
+#![tactic(auto)]
+
 ghost use Rattle.std.specs.Prelude.{◌≡◌, ◌+◌, ◌≤◌, length};
 ghost use Rattle.rules.specs.Tables.{element_size, element_at, theirs, freed_at, freed};
 ghost use Rattle.frees.specs.Freed.{whose};

@@ -1,4 +1,6 @@
 // RESERVE, RELEASE and PREVENT ALLOW from step 5 on: judged by reading only, then carried out.
+#![tactic(auto)]
+
 ghost use Rattle.std.specs.Prelude.{◌≡◌, List, ℕ, ◌+◌, ◌<◌, ◌≤◌, length};
 ghost use Rattle.rules.specs.Choice.{any_from};
 ghost use Rattle.rules.specs.Tables.{head_size, element_size, element_at, most_elements, places, hosts, lent, Rest};

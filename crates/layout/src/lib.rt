@@ -1,4 +1,6 @@
 // The layout of the lent tables: every size, offset and limit of the code. The rules have the same numbers in `Tables` and `Sound`; docs/LAYOUT.md shows them.
+#![tactic(auto)]
+
 ghost use Rattle.std.specs.Prelude.{◌≡◌};
 ghost use Rattle.rules.specs.Tables.{host_at, attention_at};
 

@@ -1,5 +1,7 @@
 // Listings: of the elements that are marked those chosen, counted range by range, and what of their pages is returned. READ ELEMENT STATUS is the
 // listing of all.
+#![tactic(auto)]
+
 ghost use Rattle.std.specs.Prelude.{◌≡◌, ◌+◌, ◌*◌, ◌≤◌, ◌<◌, length};
 ghost use Rattle.rules.specs.Bytes.{put, cut};
 ghost use Rattle.rules.specs.Tables.{Tables, Rest, element_at, lent};

@@ -1,4 +1,6 @@
 // RESERVE's parameter list: what each of its descriptors names, marked place by place, or why it is refused.
+#![tactic(auto)]
+
 ghost use Rattle.std.specs.Prelude.{◌≡◌, false, ◌+◌, ◌-◌, ◌<◌, ◌≤◌, eqb};
 ghost use Rattle.rules.specs.Choice.{when, any_from, each};
 ghost use Rattle.rules.specs.Tables.{most_elements};

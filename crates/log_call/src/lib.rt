@@ -1,4 +1,6 @@
 // What a recorded line does: a command whose answer is not kept, or an event. The tables are sound, and are not checked here.
+#![tactic(auto)]
+
 ghost use Rattle.std.specs.Prelude.{◌≡◌, [], true, ℕ, ◌≤◌, length};
 ghost use Rattle.rules.specs.Tables.{lent, searching, search_size, Rest};
 ghost use Rattle.rules.specs.Sound.{sound};

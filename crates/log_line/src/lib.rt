@@ -1,4 +1,6 @@
 // A line of a recorded log: its fields, and the numbers and bytes that they write. Any bytes may be read, and each is read once.
+#![tactic(auto)]
+
 ghost use Rattle.std.specs.Prelude.{◌≡◌, ◌+◌, ◌*◌, ◌<◌, ◌≤◌, length, drop};
 ghost use Rattle.rules.specs.Log.{digit as digit_of, line_of};
 ghost use Rattle.log_line.specs.Table.{Tabled};

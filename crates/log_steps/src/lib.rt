@@ -1,4 +1,6 @@
 // A recorded command: steps 1 to 8 as for one that is sent, but "answers aren't kept", so none is made.
+#![tactic(auto)]
+
 ghost use Rattle.std.specs.Prelude.{◌≡◌, List, ℕ, ◌≤◌, length};
 ghost use Rattle.rules.specs.Tables.{head_size, hosts, lent, searching, Rest};
 ghost use Rattle.rules.specs.Order.{after};

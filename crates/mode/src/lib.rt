@@ -1,5 +1,7 @@
 // MODE SENSE: the geometry pages of document 001, and the command from step 5 on. "what holds of cutting is shown once for all pages": the whole answer is
 // made, and its first bytes are returned.
+#![tactic(auto)]
+
 ghost use Rattle.std.specs.Prelude.{◌≡◌, List, ℕ, ◌+◌, ◌*◌, ◌≤◌, ◌<◌, length};
 ghost use Rattle.rules.specs.Bytes.{put};
 ghost use Rattle.rules.specs.Tables.{head_size, hosts, lent, Rest};

@@ -1,4 +1,6 @@
 // MOVE MEDIUM and EXCHANGE MEDIUM from step 5 on: judged by reading only, then carried out.
+#![tactic(auto)]
+
 ghost use Rattle.std.specs.Prelude.{◌≡◌, List, ℕ, ◌+◌, ◌-◌, ◌<◌, ◌≤◌, length};
 ghost use Rattle.rules.specs.Tables.{head_size, most_elements, hosts, places, panel, shown, lent, Rest};
 ghost use Rattle.rules.specs.Order.{outcome};

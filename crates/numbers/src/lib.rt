@@ -1,4 +1,6 @@
 // House numbers 2 to 4.
+#![tactic(auto)]
+
 ghost use Rattle.std.specs.Prelude.{◌≡◌, length};
 ghost use Rattle.rules.specs.Tables.{hosts};
 ghost use Rattle.rules.specs.Sound.{within};

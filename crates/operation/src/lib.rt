@@ -1,4 +1,6 @@
 // The operation of a command: the first byte is decoded here and nowhere else.
+#![tactic(auto)]
+
 ghost use Rattle.std.specs.Prelude.{◌≡◌};
 ghost use Rattle.rules.specs.Operation.{decoded};
 ghost use Rattle.operation.specs.Meaning.{meaning};

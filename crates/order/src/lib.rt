@@ -1,4 +1,6 @@
 // What every command shares: the reply, the three statuses, the causes of a refusal, how an answer is cut, and what other hosts hold.
+#![tactic(auto)]
+
 ghost use Rattle.std.specs.Prelude.{◌≡◌, List, [], ℕ, ◌≤◌, min, length};
 ghost use Rattle.rules.specs.Tables.{head_size, hosts, lent, Rest};
 ghost use Rattle.rules.specs.Order.{outcome, refused, other as otherThan, good as goodVerdict, check as checkVerdict, conflict as conflictVerdict};

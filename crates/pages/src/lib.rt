@@ -1,4 +1,6 @@
 // The bytes of a listing: descriptors, pages of them, and the header, each written to the front of the slice that is lent for it.
+#![tactic(auto)]
+
 pub mod marks;
 
 ghost use Rattle.std.specs.Prelude.{◌≡◌, ◌++◌, ◌+◌, ◌*◌, ◌≤◌, ◌<◌, length};

@@ -1,4 +1,6 @@
 // Import and export judged by reading only, for sound tables: house numbers 6 to 9.
+#![tactic(auto)]
+
 ghost use Rattle.std.specs.Prelude.{◌≡◌, true, List, ℕ};
 ghost use Rattle.rules.specs.Tables.{places, lent, Rest};
 ghost use Rattle.rules.specs.Sound.{sound};

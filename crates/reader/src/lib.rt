@@ -1,4 +1,6 @@
 // RESERVE's parameter list, "read through a reader that holds the lent list and a place".
+#![tactic(auto)]
+
 ghost use Rattle.std.specs.Prelude.{◌≡◌, ◌+◌, ◌≤◌, length};
 ghost use Rattle.rules.specs.Tables.{descriptor_size};
 ghost use Rattle.reader.specs.Read.{step_at};

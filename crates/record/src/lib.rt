@@ -1,4 +1,6 @@
 // The sense record of a host, changed where it stands.
+#![tactic(auto)]
+
 ghost use Rattle.std.specs.Prelude.{◌≡◌, [], ◌∷◌, ◌+◌, ◌≤◌, length};
 ghost use Rattle.rules.specs.Bytes.{put};
 ghost use Rattle.record.specs.Sense.{sense_of, sense_at, bytes_of};

@@ -1,4 +1,6 @@
 // Replay of a recorded log. The tables are checked once, at the start: every line leaves sound tables sound, and their ranges as they are.
+#![tactic(auto)]
+
 ghost use Rattle.std.specs.Prelude.{◌≡◌, true};
 ghost use Rattle.rules.specs.Tables.{Rest, lent, others, searching};
 ghost use Rattle.rules.specs.Sound.{sound};

@@ -1,4 +1,6 @@
 // "Find by label": SEND VOLUME TAG, the bytes of the search, and which elements it finds.
+#![tactic(auto)]
+
 ghost use Rattle.std.specs.Prelude.{◌≡◌, List, [], ◌∷◌, ℕ, ◌+◌, ◌*◌, ◌-◌, ◌≤◌, length, eqb};
 ghost use Rattle.rules.specs.Choice.{each, any_of, below};
 ghost use Rattle.rules.specs.Bytes.{put, three};

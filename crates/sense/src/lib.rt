@@ -1,4 +1,6 @@
 // What a host is told: REQUEST SENSE, from step 5 on.
+#![tactic(auto)]
+
 pub mod attention;
 
 ghost use Rattle.std.specs.Prelude.{◌≡◌, List, ℕ, ◌≤◌, length};

@@ -1,5 +1,7 @@
 // House numbers round the steps and the events, tables that are not sound before all else. As the entries above, no function here asks anything of the
 // values that it is lent, and each has the contract of its entry.
+#![tactic(auto)]
+
 pub mod event;
 
 ghost use Rattle.std.specs.Prelude.{◌≡◌};

@@ -1,4 +1,6 @@
 // "Sound tables": the check that every entry makes first, and the runs of the element table that it hands on.
+#![tactic(auto)]
+
 mod drives;
 pub mod element;
 mod marks;

@@ -1,4 +1,6 @@
 // "Sound tables", the head: its ranges, the unit's holder, and each host's record.
+#![tactic(auto)]
+
 ghost use Rattle.std.specs.Prelude.{◌≡◌, true, [], ◌∷◌, suc, ◌≤◌, length, eqb};
 ghost use Rattle.rules.specs.Choice.{all_of, below};
 ghost use Rattle.rules.specs.Tables.{head_size, hosts, key, asc, ascq, attention, attentionq};

@@ -1,4 +1,6 @@
 // Steps 1 to 8, for tables that suit, as sound ones do, a host from 1 to 8 and a block of its length.
+#![tactic(auto)]
+
 ghost use Rattle.std.specs.Prelude.{◌≡◌};
 ghost use Rattle.rules.specs.Tables.{Rest, lent, searching};
 ghost use Rattle.rules.specs.Order.{outcome, fits};

@@ -1,5 +1,7 @@
 // The lent tables: the ranges of the head, handed about as one small table, and look-up by them. The fields of an element, those of the
 // head and the prevent mask have modules of their own.
+#![tactic(auto)]
+
 pub mod element;
 pub mod head;
 pub mod mask;

@@ -1,4 +1,6 @@
 // Numbers of two and three bytes in slices, high byte first, runs of bytes, the lesser of two numbers and a difference that stops at 0.
+#![tactic(auto)]
+
 ghost use Rattle.std.specs.Prelude.{◌≡◌, [], ◌∷◌, ◌+◌, ◌*◌, ◌-◌, ◌≤◌, ◌<◌, min, length};
 ghost use Rattle.rules.specs.Bytes.{word, triple, three, put, high, low};
 

@@ -1,0 +1,12 @@
+-- `arms::open_in`: at the loop's head all but the last `left` are held by other hosts. Assumes nothing.
+use borrow.Author.Rules.{rules}
+use borrow.Author.Tests.{not-true, not-false}
+use Rattle.rules.specs.Tables.{places}
+use Rattle.arms.proofs.Open.{Held, none_in, held_none, held_found, held_on, held_all}
+use Rattle.arms.proofs.open_in.Given as goal
+
+abbrev pub invariant-loop-left : goal.invariant-loop-left
+invariant-loop-left l = Held l.host l.elements l.r l.place l.none l.left
+
+abbrev pub decreases-loop-left : goal.decreases-loop-left
+decreases-loop-left l = l.left

@@ -1,0 +1,50 @@
+-- `case_calls::made` meets its contract: the fronts of the copies are lent, and come back. Assumes nothing.
+use Rattle.case_rooms.proofs.Lending.{front, given, as_long}
+use Rattle.case_calls.proofs.Fronts.{on-fronts}
+use borrow.Author.Rules.{rules}
+use Rattle.case_calls.proofs.made.Goals as goal
+
+pub least-h-requires : goal.least-h-requires
+least-h-requires c = tt
+
+pub least-e-requires : goal.least-e-requires
+least-e-requires c = tt
+
+pub least-s-requires : goal.least-s-requires
+least-s-requires c = tt
+
+pub least-b-requires : goal.least-b-requires
+least-b-requires c = tt
+
+pub entered-requires : goal.entered-requires
+entered-requires c = tt
+
+pub shape_of-head : goal.shape_of-head
+shape_of-head c =
+    as_long _ _ _ c.least-h.ensures.value c.entered.new.1.1.0 c.entered.auto.1.1.0
+
+pub shape_of-elements : goal.shape_of-elements
+shape_of-elements c =
+    as_long _ _ _ c.least-e.ensures.value c.entered.new.1.1.1.0 c.entered.auto.1.1.1.0
+
+pub shape_of-search : goal.shape_of-search
+shape_of-search c =
+    as_long _ _ _ c.least-s.ensures.value c.entered.new.1.1.1.1.1.0 c.entered.auto.1.1.1.1.1.0
+
+pub shape_of-answer : goal.shape_of-answer
+shape_of-answer c =
+    as_long _ _ _ c.least-b.ensures.value c.entered.new.1.1.1.1.1.1.0 c.entered.auto.1.1.1.1.1.1.0
+
+pub returns : goal.returns
+returns c =
+    let kept = c.entered.auto.1.1 in
+    on-fronts _ _ _ _ _ _ _ _ _ _ _ _ _ _ _ _ _ _ _ _ _ _ _
+    (given _ _ _ c.least-h.ensures.value _ kept.0)
+    (given _ _ _ c.least-e.ensures.value _ kept.1.0)
+    (given _ _ _ c.least-s.ensures.value _ kept.1.1.1.0)
+    (given _ _ _ c.least-b.ensures.value _ kept.1.1.1.1.0)
+    (front _ _ _ c.least-h.ensures.value)
+    (front _ _ _ c.least-e.ensures.value)
+    (front _ _ _ c.least-s.ensures.value)
+    (front _ _ _ c.least-b.ensures.value)
+    c.entered.ensures

@@ -1,0 +1,7 @@
+-- `case_rooms::paint` meets its contract: what is past the end is not written. Assumes nothing.
+use Rattle.case_rooms.proofs.Clamped.{painted}
+use borrow.Author.Rules.{rules}
+use Rattle.case_rooms.proofs.paint.Goals as goal
+
+pub returns : goal.returns
+returns c = painted _ _ _ c.least-start.ensures.value _ _ _ _ c.least.ensures.value c.fill.ensures

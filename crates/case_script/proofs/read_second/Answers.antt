@@ -1,0 +1,17 @@
+-- `case_script::read_second` meets its contract. Assumes nothing.
+use Rattle.case_script.proofs.Sayings.{within, after-missing, after-taken}
+use Rattle.case_script.specs.Lines.{second_number}
+use borrow.Author.Rules.{rules}
+use Rattle.case_script.proofs.read_second.Goals as goal
+
+pub finish-requires : goal.finish-requires
+finish-requires c = within _ _ _ _ c.take_number.ensures.within c.in-Took.is
+
+pub returns-in-Missing : goal.returns-in-Missing
+unfolding second_number
+returns-in-Missing c = after-missing _ _ c.take_number.ensures.value _ _ _ c.in-Missing.is
+
+pub returns-in-Took : goal.returns-in-Took
+unfolding second_number
+returns-in-Took c =
+    after-taken _ _ c.take_number.ensures.value _ _ _ c.in-Took.is _ c.finish.ensures

@@ -1,0 +1,12 @@
+-- `events::announce` meets its contract. Assumes nothing.
+use Prim.Native.Nat.{◌+◌, ◌-◌, ◌≤◌}
+use native.Mathlib.Omega.{arith}
+use Rattle.rules.proofs.Loops.{Turned, turned_none, turned_more, turned-all}
+use Rattle.rules.specs.Tables.{hosts, announced_to, announced}
+use Rattle.events.proofs.announce.Given as goal
+
+abbrev pub invariant-loop-host : goal.invariant-loop-host
+invariant-loop-host l = (l.host ≤ 1 + hosts) × Turned (announced_to l.asc l.ascq) 1 l.initial.head l.head l.host
+
+abbrev pub decreases-loop-host : goal.decreases-loop-host
+decreases-loop-host l = 1 + hosts - l.host

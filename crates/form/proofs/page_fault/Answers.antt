@@ -1,0 +1,14 @@
+-- `form::page_fault` meets its contract. Assumes nothing.
+use mathlib.Core.Path.{refl}
+use Rattle.rules.specs.Form.{own_fault}
+use Rattle.rules.proofs.Ladder.{yes, no}
+use borrow.Author.Rules.{rules}
+use Rattle.form.proofs.page_fault.Goals as goal
+
+pub returns-then-no_answer : goal.returns-then-no_answer
+unfolding own_fault
+returns-then-no_answer c = λ list. yes _ _ _ _ _ c.no_answer.ensures c.if-no_answer.true refl
+
+pub returns : goal.returns
+unfolding own_fault
+returns c = λ list. no _ _ _ _ _ c.no_answer.ensures c.if-no_answer.false refl

@@ -1,0 +1,26 @@
+-- `frees::free` meets its contract. Assumes nothing.
+use Prim.Native.Nat.{◌≤◌, ◌-◌}
+use native.Mathlib.Omega.{arith}
+use borrow.Author.Rules.{rules}
+use Rattle.rules.proofs.Loops.{Turned, turned_none, turned_more, turned-all}
+use Rattle.rules.specs.Tables.{places, freed_at, freed}
+use Rattle.frees.specs.Freed.{whose}
+use Rattle.frees.proofs.free.Goals as goal
+
+pub loop-p-init : goal.loop-p-init
+loop-p-init c = (search rules, turned_none _ 0 _)
+
+pub free_at-requires : goal.free_at-requires
+unfolding places
+free_at-requires c = omega (arith, c.places-n.ensures)
+
+pub loop-p-preserved : goal.loop-p-preserved
+loop-p-preserved c =
+    (search rules, turned_more _ 0 _ _ _ c.loop-p.invariant.1 _ c.free_at.ensures c.free_at.auto.0)
+
+pub shape_of-elements : goal.shape_of-elements
+shape_of-elements c = c.loop-p.invariant.1.kept
+
+pub returns : goal.returns
+unfolding freed
+returns c = turned-all _ 0 _ _ _ c.loop-p.invariant.1 _ (omega (arith, c.places-n.ensures))

@@ -1,0 +1,14 @@
+-- `holds::judge_elements`: at the loop's head the first k descriptors had no fault, what they name is marked, and where it begins and ends is
+-- kept. Assumes nothing.
+use Prim.Native.Nat.{◌-◌}
+use native.Mathlib.Omega.{arith}
+use borrow.Author.Rules.{rules}
+use Rattle.tables.specs.Ranges.{laid}
+use Rattle.holds.proofs.Turns.{Turning, turn-begins, turn-wrong, turn_on, turn-bounded, turn-taken, turn-free, turn-marks, length-wrong, length-right, length_most}
+use Rattle.holds.proofs.judge_elements.Given as goal
+
+abbrev pub invariant-loop-k : goal.invariant-loop-k
+invariant-loop-k l = Turning (laid l.runs) l.elements l.host l.id l.list l.n l.marks l.firsts l.ends l.k
+
+abbrev pub decreases-loop-k : goal.decreases-loop-k
+decreases-loop-k l = l.n - l.k

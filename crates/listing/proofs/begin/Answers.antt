@@ -1,0 +1,6 @@
+-- `listing::begin` meets its contract. Assumes nothing.
+use borrow.Author.Rules.{rules}
+use Rattle.listing.proofs.begin.Goals as goal
+
+pub returns : goal.returns
+returns c = rw c.less.ensures

@@ -1,0 +1,22 @@
+-- `listing::choose` meets its contract. Assumes nothing.
+use mathlib.Core.Path.{sym, ◌∙◌}
+use native.Mathlib.Omega.{arith}
+use Rattle.tables.specs.Ranges.{meaning}
+use Rattle.listing.proofs.Parts.{picked-few, some_one, none-part}
+use borrow.Author.Rules.{rules}
+use Rattle.listing.proofs.choose.Goals as goal
+
+pub returns-then-n-eq0 : goal.returns-then-n-eq0
+returns-then-n-eq0 c =
+    let a = c.args in
+    none-part a.marks.now a.q a.s (meaning a.r) (sym c.pick-n.ensures ∙ c.if-n-eq0.true)
+
+pub fit-m-requires : goal.fit-m-requires
+fit-m-requires c =
+    let a = c.args in
+    omega (arith, rw (← c.pick-n.ensures) at (picked-few a.marks.now a.q a.s (meaning a.r)).1)
+
+pub returns : goal.returns
+returns c =
+    rw (some_one _ (λ z. c.if-n-eq0.false (c.pick-n.ensures ∙ z)))
+    (rw (c.reach-run.ensures, c.reach-lead.ensures, c.less-count.ensures, c.less-skip.ensures, c.fit-m.ensures, c.pick-n.ensures))

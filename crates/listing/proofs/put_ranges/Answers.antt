@@ -1,0 +1,78 @@
+-- `listing::put_ranges` meets its contract: at the loop's head, what the ranges from here on add makes up what all of them add. Assumes nothing.
+use mathlib.Core.Path.{◌≡◌, ◌∙◌}
+use native.Mathlib.Omega.{arith}
+use Prim.Native.Nat.{◌-◌}
+use lib.ListN.{length}
+use borrow.Author.Rules.{rules}
+use Rattle.pages.specs.Pages.{stock}
+use Rattle.listing.proofs.Parts.{part_small, step_is}
+use Rattle.listing.proofs.Counted.{within-later, write-nothing}
+use Rattle.listing.proofs.Stages.{Writing, writing_begins, writing-inside, writing-room, writing-stands, writing-on, writing-ends}
+use Rattle.listing.proofs.put_ranges.Goals as goal
+
+four : (c : tie.Start invariant-loop decreases-loop) → length c.args.t8 ≡ 4
+four c = search rules
+
+pub returns-then-s-eq0 : goal.returns-then-s-eq0
+returns-then-s-eq0 c =
+    write-nothing _ _ _ c.requires.labelled _ _ _ c.if-s-eq0.true
+
+pub loop-k-init : goal.loop-k-init
+loop-k-init c =
+    writing_begins _ _ _ _ _ _ c.requires.rs_in_bounds c.requires.rs_in_bounds_2 c.requires.start_bound.1.0 c.requires.start_bound.1.1
+
+pub offset_bounds-rs-k : goal.offset_bounds-rs-k
+offset_bounds-rs-k c = omega arith
+
+pub bounds-rs-k : goal.bounds-rs-k
+bounds-rs-k c = c.loop-k-test.true
+
+pub choose-p-requires : goal.choose-p-requires
+choose-p-requires c =
+    let l = c.loop-k in
+    (c.requires.start_bound.0, omega (arith, l.invariant.within.place))
+
+pub put_range-requires : goal.put_range-requires
+put_range-requires c =
+    let l = c.loop-k in
+    let n = four c in
+    let ok = c.requires.labelled in (
+      writing-room _ _ _ ok _ _ _ _ _ _ _ l.invariant (omega arith),
+      (
+        (c.requires.start_bound.0, (writing-inside _ _ _ ok _ _ _ _ _ _ _ l.invariant (omega arith), within-later _ _ _ (omega arith) l.invariant.within)),
+        (c.choose-p.ensures, (writing-stands _ _ _ ok _ _ _ _ _ _ _ l.invariant (omega arith), ok)),
+      ),
+    )
+
+pub step-x-requires : goal.step-x-requires
+step-x-requires c =
+    let l = c.loop-k in
+    let n = four c in
+    let ok = c.requires.labelled in (
+      (c.requires.start_bound.0, writing-inside _ _ _ ok _ _ _ _ _ _ _ l.invariant (omega arith)),
+      (
+        within-later _ _ _ (omega arith) l.invariant.within,
+        rw c.choose-p.ensures (part_small _ c.args.q _ _ (writing-inside _ _ _ ok _ _ _ _ _ _ _ l.invariant (omega arith)) l.invariant.within.sum),
+      ),
+    )
+
+pub overflow_add-k : goal.overflow_add-k
+overflow_add-k c = omega arith
+
+pub loop-k-smaller : goal.loop-k-smaller
+loop-k-smaller c = omega arith
+
+pub loop-k-preserved : goal.loop-k-preserved
+loop-k-preserved c =
+    let l = c.loop-k in
+    let n = four c in
+    writing-on _ _ _ c.requires.labelled _ _ _ _ _ _ _ l.invariant (omega arith) c.requires.start_bound.0 _ c.put_range.ensures _
+    ((rw c.choose-p.ensures at c.step-x.ensures) ∙ step_is _ _ _ _)
+
+pub shape_of-answer : goal.shape_of-answer
+shape_of-answer c = c.loop-k.invariant.long
+
+pub returns : goal.returns
+returns c =
+    let n = four c in
+    writing-ends _ _ _ c.requires.labelled _ _ _ _ _ _ c.loop-k.invariant (omega arith)

@@ -1,0 +1,16 @@
+-- `mode::arms` meets its contract. Assumes nothing.
+use mathlib.Core.Path.{◌≡◌, sym, ap, ◌∙◌}
+use native.Mathlib.Omega.{arith}
+use Prim.Native.Nat.{◌-◌, ◌≤◌}
+use lib.ListN.{length}
+use Rattle.rules.specs.Bytes.{put}
+use Rattle.rules.specs.Mode.{members}
+use Rattle.rules.proofs.Writes.{put-length, put-nothing, put_then}
+use Rattle.mode.proofs.Pages.{members-length, members-more}
+use Rattle.mode.proofs.arms.Given as goal
+
+abbrev pub invariant-loop-i : goal.invariant-loop-i
+invariant-loop-i l = (l.d ≡ put l.initial.d l.at (members l.i 0)) × (l.i ≤ l.n)
+
+abbrev pub decreases-loop-i : goal.decreases-loop-i
+decreases-loop-i l = l.n - l.i

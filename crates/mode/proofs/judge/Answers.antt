@@ -1,0 +1,18 @@
+-- `mode::judge` meets its contract. Assumes nothing.
+use Rattle.rules.proofs.Ladder.{ladder}
+use Rattle.mode.specs.Judged.{mode_by}
+use Rattle.mode.proofs.Telling.{least-most}
+use borrow.Author.Rules.{rules}
+use Rattle.mode.proofs.judge.Goals as goal
+
+pub returns-then-room-count : goal.returns-then-room-count
+unfolding mode_by
+returns-then-room-count c =
+    let n = c.whole_bytes.ensures in
+     record { value = rw (← n, ← c.cut-count.ensures) (search ladder depth 10); within = tt }
+
+pub returns : goal.returns
+unfolding mode_by
+returns c =
+    let n = c.whole_bytes.ensures in
+    (rw (← n, ← c.cut-count.ensures) (search ladder depth 10), (rw (c.cut-count.ensures, n) (least-most _ _), search rules))

@@ -1,0 +1,50 @@
+-- `moves::carry_out` meets its contract. Assumes nothing.
+use Rattle.moves.specs.Judged.{meaning}
+use Rattle.moves.proofs.Answers.{within-move, within-exchange}
+use Rattle.moves.proofs.Carried.{moved_ends, exchanged-ends, tally-move, tally-exchange, room-to-move, room-to-exchange}
+use borrow.Author.Rules.{rules}
+use Rattle.moves.proofs.carry_out.Goals as goal
+
+pub carry-requires : goal.carry-requires
+carry-requires c =
+    let able = c.requires.able in
+    (able.block-length, within-move _ _ _ _ _ c.in-Move.is able.within)
+
+pub recount-requires : goal.recount-requires
+recount-requires c =
+    let able = c.requires.able in
+    (able.head-length, (able.few, room-to-move _ _ _ _ able _ _ _ c.in-Move.is))
+
+pub returns-in-Move : goal.returns-in-Move
+unfolding meaning
+returns-in-Move c =
+    λ rest buffer.
+    rw c.in-Move.is
+    (moved_ends _ _ _ _ _ _ rest buffer _ _ c.requires.le_host c.requires.host_le_hosts c.good.ensures _ _ _ c.carry.ensures c.recount.ensures
+    (tally-move _ _ _ _ c.requires.able _ _ _ c.in-Move.is))
+
+pub swap-requires : goal.swap-requires
+swap-requires c =
+    let able = c.requires.able in
+    (able.block-length, within-exchange _ _ _ _ _ _ _ c.in-Exchange.is able.within)
+
+pub recount-requires-in-Exchange : goal.recount-requires-in-Exchange
+recount-requires-in-Exchange c =
+    let able = c.requires.able in
+    (able.head-length, (able.few, room-to-exchange _ _ _ _ able _ _ _ _ _ c.in-Exchange.is))
+
+pub returns-in-Exchange : goal.returns-in-Exchange
+unfolding meaning
+returns-in-Exchange c =
+    λ rest buffer.
+    rw c.in-Exchange.is
+    (exchanged-ends _ _ _ _ _ _ rest buffer _ _ c.requires.le_host c.requires.host_le_hosts c.good-in-Exchange.ensures _ _ _ _ _ c.swap.ensures c.recount-in-Exchange.ensures
+    (tally-exchange _ _ _ _ c.requires.able _ _ _ _ _ c.in-Exchange.is))
+
+pub returns-in-Refused : goal.returns-in-Refused
+unfolding meaning
+returns-in-Refused c = λ rest buffer. rw c.in-Refused.is (c.refuse.ensures _ rest buffer)
+
+pub returns-in-Conflict : goal.returns-in-Conflict
+unfolding meaning
+returns-in-Conflict c = λ rest buffer. rw c.in-Conflict.is (c.conflict.ensures _ rest buffer)

@@ -1,0 +1,12 @@
+-- `moves::exchange_medium` meets its contract. Assumes nothing.
+use Rattle.rules.specs.Choice.{when}
+use Rattle.moves.specs.Judged.{carry_verdict}
+use borrow.Author.Rules.{rules}
+use Rattle.moves.proofs.exchange_medium.Goals as goal
+
+pub medium-requires : goal.medium-requires
+medium-requires c = c.requires
+
+pub returns : goal.returns
+unfolding carry_verdict when
+returns c = λ rest buffer g m. c.medium.ensures rest buffer g m

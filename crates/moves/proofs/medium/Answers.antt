@@ -1,0 +1,18 @@
+-- `moves::medium` meets its contract. Assumes nothing.
+use Rattle.moves.proofs.Carried.{records-are, judged-is, judged-able}
+use borrow.Author.Rules.{rules}
+use Rattle.moves.proofs.medium.Goals as goal
+
+pub judge-ruling-requires : goal.judge-ruling-requires
+judge-ruling-requires c =
+    (c.requires.ready.head-length, (records-are _ _ _ c.requires.ready, c.requires.block_len))
+
+pub carry_out-requires : goal.carry_out-requires
+carry_out-requires c =
+    let told = c.judge-ruling.ensures in
+    (judged-able _ _ _ c.requires.ready _ _ _ _ _ _ told.0 c.requires.block_len told.1, (c.requires.le_host, c.requires.host_le_hosts))
+
+pub returns : goal.returns
+returns c =
+    λ rest buffer g m.
+    rw (judged-is _ _ _ c.requires.ready _ _ _ _ _ _ c.judge-ruling.ensures.value rest g m) at (c.carry_out.ensures rest buffer)

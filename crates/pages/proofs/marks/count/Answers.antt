@@ -1,0 +1,53 @@
+-- `pages::marks::count` meets its contract: at the loop's head, the marks found and those from here on are all. Assumes nothing.
+use mathlib.Core.Path.{◌≡◌, sym}
+use mathlib.Core.Logic.{⊎_elim}
+use native.Mathlib.Omega.{arith}
+use Prim.Native.Nat.{◌+◌, ◌-◌, ◌≤◌, ◌<◌}
+use borrow.Author.Rules.{rules}
+use Rattle.rules.specs.Bytes.{byte}
+use Rattle.pages.specs.Marks.{marks_in}
+use Rattle.pages.proofs.Marked.{marks-all, marks-end, marks-zero, count-marked, count-not}
+use Rattle.pages.proofs.marks.count.Goals as goal
+
+pub returns-then-marks-eq0 : goal.returns-then-marks-eq0
+returns-then-marks-eq0 c = sym (marks-all _ _ _ c.if-marks-eq0.true)
+
+pub overflow_add-place : goal.overflow_add-place
+overflow_add-place c = omega arith
+
+pub loop-i-init : goal.loop-i-init
+loop-i-init c = omega arith
+
+pub bounds-marks-i : goal.bounds-marks-i
+bounds-marks-i c = omega arith
+
+pub overflow_add-k : goal.overflow_add-k
+overflow_add-k c = omega arith
+
+pub overflow_add-i : goal.overflow_add-i
+overflow_add-i c = omega arith
+
+pub loop-i-smaller : goal.loop-i-smaller
+loop-i-smaller c = omega arith
+
+pub loop-i-preserved : goal.loop-i-preserved
+unfolding byte
+loop-i-preserved c =
+    let l = c.loop-i in
+    let marks = c.args.marks.now in
+    let ne = c.if-marks-eq0.false in
+    ⊎_elim
+    (λ w. let m = count-marked marks l.i c.least-end.result ne c.loop-i-test.true w.0.taken in (omega (arith, w.1), (omega (arith, w.1), omega (arith, w.1))))
+    (λ w. let m = count-not marks l.i c.least-end.result ne c.loop-i-test.true w.0.left in (omega (arith, w.1), (omega (arith, w.1), omega (arith, w.1))))
+    c.if-marks-i-ne0.branch
+
+pub overflow_cast-result : goal.overflow_cast-result
+overflow_cast-result c = omega (arith, c.loop-i.invariant.1.1)
+
+pub returns : goal.returns
+returns c =
+    let l = c.loop-i in
+    let a = c.args in
+    let z = marks-zero a.marks.now (c.least-end.result - l.i) l.i (omega arith) in
+    let e = rw (← c.least-end.ensures) at (marks-end a.marks.now a.n a.place c.if-marks-eq0.false) in
+    omega arith

@@ -1,0 +1,16 @@
+-- `pages::marks::count` meets its contract: at the loop's head, the marks found and those from here on are all. Assumes nothing.
+use mathlib.Core.Path.{◌≡◌, sym}
+use mathlib.Core.Logic.{⊎_elim}
+use native.Mathlib.Omega.{arith}
+use Prim.Native.Nat.{◌+◌, ◌-◌, ◌≤◌, ◌<◌}
+use borrow.Author.Rules.{rules}
+use Rattle.rules.specs.Bytes.{byte}
+use Rattle.pages.specs.Marks.{marks_in}
+use Rattle.pages.proofs.Marked.{marks-all, marks-end, marks-zero, count-marked, count-not}
+use Rattle.pages.proofs.marks.count.Given as goal
+
+abbrev pub invariant-loop-i : goal.invariant-loop-i
+invariant-loop-i l = (l.k + marks_in l.marks (l.end - l.i) l.i ≡ marks_in l.marks (l.end - l.place) l.place) × ((l.k + l.place ≤ l.i) × (l.k < 65536))
+
+abbrev pub decreases-loop-i : goal.decreases-loop-i
+decreases-loop-i l = l.end - l.i

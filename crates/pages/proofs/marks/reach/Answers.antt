@@ -1,0 +1,55 @@
+-- `pages::marks::reach` meets its contract: at the loop's head, the places passed and those still to pass reach as far as all. Assumes nothing.
+use mathlib.Core.Path.{◌≡◌, sym, ◌∙◌}
+use mathlib.Core.Logic.{⊎_elim}
+use native.Mathlib.Omega.{arith}
+use Prim.Native.Nat.{◌+◌, ◌-◌, ◌≤◌}
+use native.Mathlib.Nat.{zero-add, sub-zero, add-zero}
+use borrow.Author.Rules.{rules}
+use Rattle.pages.specs.Marks.{reach_of}
+use Rattle.pages.proofs.Marked.{reach-all, reach-none, reach-empty, reach-on, reach-past}
+use Rattle.pages.proofs.marks.reach.Goals as goal
+
+pub returns-then-marks-eq0 : goal.returns-then-marks-eq0
+returns-then-marks-eq0 c = c.least.ensures ∙ sym (reach-all _ _ _ _ c.if-marks-eq0.true)
+
+pub loop-i-init : goal.loop-i-init
+loop-i-init c = (rw (zero-add, sub-zero, add-zero), omega arith)
+
+pub returns-then-left-eq0 : goal.returns-then-left-eq0
+returns-then-left-eq0 c =
+    let l = c.loop-i in
+    let z = reach-none c.args.marks.now (c.args.n - l.i) (c.args.place + l.i) in
+    let e = rw c.if-left-eq0.true at l.invariant.0 in
+    omega arith
+
+pub overflow_add-place : goal.overflow_add-place
+overflow_add-place c = omega arith
+
+pub overflow_sub-left : goal.overflow_sub-left
+overflow_sub-left c = omega arith
+
+pub overflow_add-i : goal.overflow_add-i
+overflow_add-i c = omega arith
+
+pub loop-i-smaller : goal.loop-i-smaller
+loop-i-smaller c = omega arith
+
+pub loop-i-preserved : goal.loop-i-preserved
+loop-i-preserved c =
+    let l = c.loop-i in
+    let marks = c.args.marks.now in
+    let n = c.loop-i-test.true in
+    let some = c.if-left-eq0.false in
+    let e = c.marked.ensures in
+    ⊎_elim
+    (λ w. let r = reach-on marks c.args.place l.left l.i c.args.n n some (sym e ∙ w.0.taken) in (rw w.1 (sym r ∙ l.invariant.0), omega arith))
+    (λ w. let r = reach-past marks c.args.place l.left l.i c.args.n n some (sym e ∙ w.0.left) in (rw w.1 (sym r ∙ l.invariant.0), omega arith))
+    c.if-marked.branch
+
+pub returns : goal.returns
+returns c =
+    let l = c.loop-i in
+    let n : c.args.n - l.i ≡ 0 = omega arith in
+    let z = reach-empty c.args.marks.now l.left (c.args.place + l.i) in
+    let e = rw n at l.invariant.0 in
+    omega arith

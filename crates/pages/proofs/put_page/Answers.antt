@@ -1,0 +1,78 @@
+-- `pages::put_page` meets its contract. Assumes nothing.
+-- the page has room
+use mathlib.Core.Path.{◌≡◌, refl, sym, ◌∙◌}
+use native.Mathlib.Omega.{arith}
+use borrow.Author.Tests.{eq-eqb, ne_eqb}
+use Prim.Native.Nat.{ℕ, ◌+◌, ◌*◌, ◌-◌, ◌≤◌}
+use mathlib.Core.List.{List}
+use lib.ListN.{length, length-take, length-drop}
+use borrow.Rule.Slice.PartMut.{put_mid, same_len_mid}
+use Rattle.rules.specs.Choice.{when}
+use mathlib.Core.Bool.{Bool}
+use Rattle.rules.specs.Bytes.{three}
+use Rattle.rules.specs.Listing.{page_header}
+use Rattle.pages.specs.Marks.{marked_of}
+use Rattle.pages.specs.Pages.{stock, descriptors, shown}
+use Rattle.pages.proofs.Lent.{put_both}
+use Rattle.rules.proofs.Writes.{put-nothing}
+use Rattle.pages.proofs.Marked.{marks-length}
+use Rattle.pages.proofs.Descriptor.{run_length, page-bytes-is}
+use borrow.Author.Rules.{rules}
+use Rattle.pages.proofs.put_page.Goals as goal
+
+room : (c : tie.After-width)
+    → (let a = c.before.before.before.before.before.before.before.args in a.at + 8 + a.m * c.width.result ≤ length a.answer.now)
+room c =
+    let s = c.before.before.before.before.before.before.before in
+    let u = page-bytes-is s.args.tagged s.args.m c.before.if1.false in
+    rw c.width.ensures (omega (arith, u, s.requires.0))
+
+-- and keeps its length once its header is written
+
+kept : (c : tie.After-page-header)
+    → (let a = c.before.before.before.before.before.before.before.before.before.args in
+    length (put_mid a.at (a.at + 8 - a.at) a.answer.now c.page-header.new.0) ≡ length a.answer.now)
+kept c =
+    let a = c.before.before.before.before.before.before.before.before.before.args in
+    same_len_mid a.at (a.at + 8 - a.at) a.answer.now c.page-header.new.0 c.page-header.auto.0
+
+header-length : (tagged : Bool) (kind n : ℕ) → length (page_header tagged kind n) ≡ 8
+unfolding page_header three
+header-length tagged kind n = refl
+
+pub returns-then-m-eq0 : goal.returns-then-m-eq0
+unfolding shown when
+returns-then-m-eq0 c =
+    let a = c.args in
+    let e = marks-length a.marks.now a.kind a.address a.place a.run ∙ sym c.requires.m_value.0 ∙ c.if-m-eq0.true in
+    rw (eq-eqb _ _ e) (sym (put-nothing _ _))
+
+pub overflow_mul-end : goal.overflow_mul-end
+overflow_mul-end c = omega (arith, room c)
+
+pub overflow_add-end : goal.overflow_add-end
+overflow_add-end c = omega (arith, room c)
+
+pub describe_run-requires : goal.describe_run-requires
+describe_run-requires c =
+    let k = kept c in
+    let f = room c in (
+      rw (← c.requires.m_value.0, ← c.width.ensures) (simp (length-take, length-drop) (omega (arith, k, f))),
+      (c.requires.run_bound, (c.requires.run_in_bounds, c.requires.labelled)),
+    )
+
+pub returns : goal.returns
+unfolding shown when
+returns c =
+    let a = c.args in
+    let w = c.width in
+    let t = stock a.elements.now a.tags.now a.blank.now in
+    let ss : List _ = marked_of a.marks.now a.kind a.address a.place a.run in
+    let d : List _ = descriptors a.tagged t ss in
+    let m : length ss ≡ a.m = marks-length a.marks.now a.kind a.address a.place a.run ∙ sym c.requires.m_value.0 in
+    let e : length d ≡ a.m * w.result =
+    rw (w.ensures, c.requires.m_value.0) (run_length a.tagged t a.marks.now a.kind a.address a.place a.run c.requires.labelled c.requires.run_in_bounds) in
+    let f = room c in
+    let h = header-length a.tagged a.kind a.n in
+    rw (c.describe_run.ensures, c.page_header.ensures, m, ne_eqb a.m 0 c.if-m-eq0.false)
+    (put_both a.answer.now a.at (a.at + 8 - a.at) (a.at + 8) (a.at + 8 + a.m * w.result - (a.at + 8)) (page_header a.tagged a.kind a.n) d (omega arith) (omega arith) (omega arith) (omega arith))

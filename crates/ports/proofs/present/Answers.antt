@@ -1,0 +1,37 @@
+-- `ports::present` meets its contract. Assumes nothing.
+use Prim.Native.Nat.{◌-◌, ◌≤◌}
+use native.Mathlib.Omega.{arith}
+use mathlib.Core.Path.{sym, ◌∙◌}
+use lib.Dec.{eqb}
+use borrow.Author.Tests.{eq-eqb, ne_eqb}
+use borrow.Author.Rules.{rules}
+use Rattle.rules.proofs.Loops.{Failed, failed-none, failed-more, found-there, found_nowhere}
+use Rattle.rules.specs.Tables.{places}
+use Rattle.rules.specs.Events.{present}
+use Rattle.ports.proofs.present.Goals as goal
+
+pub loop-place-init : goal.loop-place-init
+loop-place-init c = (omega arith, failed-none _ 0)
+
+pub volume-requires : goal.volume-requires
+unfolding places
+volume-requires c = omega arith
+
+pub returns-then-volume : goal.returns-then-volume
+unfolding present
+returns-then-volume c =
+    found-there _ 0 _ _ (omega arith) (omega (arith, c.places-n.ensures)) (eq-eqb _ _ (sym c.volume.ensures ∙ c.if-volume.true))
+
+pub overflow_add-place : goal.overflow_add-place
+overflow_add-place c = omega arith
+
+pub loop-place-smaller : goal.loop-place-smaller
+loop-place-smaller c = omega arith
+
+pub loop-place-preserved : goal.loop-place-preserved
+loop-place-preserved c =
+    (omega arith, failed-more _ 0 _ c.loop-place.invariant.1 (ne_eqb _ _ (λ e. c.if-volume.false (c.volume.ensures ∙ e))))
+
+pub returns : goal.returns
+unfolding present
+returns c = found_nowhere _ 0 _ _ c.loop-place.invariant.1 (omega (arith, c.places-n.ensures))

@@ -1,0 +1,7 @@
+-- `record::note` meets its contract. Assumes nothing.
+use mathlib.Core.Path.{◌∙◌}
+use borrow.Author.Rules.{rules}
+use Rattle.record.proofs.note.Goals as goal
+
+pub returns : goal.returns
+returns c = c.put_sense.ensures ∙ rw c.stored-s.ensures

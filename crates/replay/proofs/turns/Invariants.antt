@@ -1,0 +1,17 @@
+-- `replay::turns` meets its contract. Assumes nothing.
+use borrow.Author.Rules.{rules}
+use Prim.Native.Nat.{◌-◌}
+use native.Mathlib.Omega.{arith}
+use mathlib.Core.Path.{refl, sym, ◌∙◌}
+use Rattle.rules.specs.Tables.{lent, searching}
+use Rattle.log_line.proofs.Text.{tail}
+use Rattle.replay.proofs.Ways.{told-ends, starts, all_done, log-ends, ten, Went, went, onward, still-sound, still-runs, Going}
+use Rattle.replay.proofs.turns.Given as goal
+
+abbrev pub invariant-loop-lines : goal.invariant-loop-lines
+invariant-loop-lines l =
+    Going l.initial.head l.initial.elements l.tags l.generations l.masks l.initial.search l.log l.expected l.budget l.runs l.head l.elements l.search l.block l.list l.lines l.place l.next
+
+abbrev pub decreases-loop-lines : goal.decreases-loop-lines
+decreases-loop-lines l =
+    l.budget - l.lines

@@ -1,0 +1,34 @@
+-- `search::mark_places`: at the loop's head the places before p are looked at. Assumes nothing.
+use Prim.Native.Nat.{◌≤◌, ◌-◌}
+use native.Mathlib.Omega.{arith}
+use mathlib.Core.Logic.{⊎_elim}
+use borrow.Author.Rules.{rules}
+use Rattle.rules.proofs.Loops.{turned_none, turned-all}
+use Rattle.search.proofs.Places.{Placed, placed-more, mark_made, mark-none}
+use Rattle.search.proofs.mark_places.Goals as goal
+
+pub loop-p-init : goal.loop-p-init
+loop-p-init c = (search rules, turned_none _ _ _)
+
+pub volume_fits-requires : goal.volume_fits-requires
+volume_fits-requires c = record { search_len = (c.requires.search_len.0, rw c.volume.ensures (c.requires.search_len.1 c.loop-p.p (search rules))); cared = c.requires.cared }
+
+pub bounds-marks-p : goal.bounds-marks-p
+bounds-marks-p c = let l = c.loop-p.invariant in omega (arith, l.1.kept)
+
+pub loop-p-preserved : goal.loop-p-preserved
+loop-p-preserved c =
+    let l = c.loop-p.invariant in (
+      search rules,
+      placed-more _ _ _ _ _ _ _ l.1 _
+          (⊎_elim
+          (λ w. mark_made _ _ _ _ _ _ c.volume.ensures c.volume_fits.ensures _ _ w.0.taken w.1)
+          (λ w. mark-none _ _ _ _ _ _ c.volume.ensures c.volume_fits.ensures _ _ w.0.left w.1)
+          c.if-volume_fits.branch),
+    )
+
+pub shape_of-marks : goal.shape_of-marks
+shape_of-marks c = c.loop-p.invariant.1.kept
+
+pub returns : goal.returns
+returns c = turned-all _ _ _ _ _ c.loop-p.invariant.1 _ (search rules)

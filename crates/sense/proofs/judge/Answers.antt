@@ -1,0 +1,27 @@
+-- `sense::judge` meets its contract. Assumes nothing.
+use mathlib.Core.Path.{sym}
+use Rattle.rules.specs.Bytes.{byte}
+use Rattle.rules.proofs.Ladder.{ladder}
+use Rattle.sense.specs.Judged.{sense_by}
+use Rattle.sense.proofs.Telling.{least-most}
+use borrow.Author.Rules.{rules}
+use Rattle.sense.proofs.judge.Goals as goal
+
+pub overflow_cast-block : goal.overflow_cast-block
+overflow_cast-block c = search (rules, c.shared_slice_known-3-1.given 4)
+
+pub returns-then-room-count : goal.returns-then-room-count
+unfolding sense_by byte
+returns-then-room-count c =  record { value = rw (sym c.cut-count.ensures) (search ladder depth 10); within = tt }
+
+pub returns-then-tells_attention : goal.returns-then-tells_attention
+unfolding sense_by byte
+returns-then-tells_attention c =
+    let n = c.cut-count.ensures in
+     record { value = rw (sym n) (search ladder depth 10); within = (rw n (least-most _ _), search rules) }
+
+pub returns : goal.returns
+unfolding sense_by byte
+returns c =
+    let n = c.cut-count.ensures in
+    (rw (sym n) (search ladder depth 10), (rw n (least-most _ _), search rules))

@@ -1,0 +1,12 @@
+-- `sense::tell_sense` meets its contract. Assumes nothing.
+use Rattle.rules.specs.Tables.{NewSense, in_head}
+use Rattle.sense.specs.Judged.{meaning}
+use Rattle.sense.proofs.Telling.{tells}
+use borrow.Author.Rules.{rules}
+use Rattle.sense.proofs.tell_sense.Goals as goal
+
+pub returns : goal.returns
+unfolding meaning in_head
+returns c = λ elements rest.
+    rw (← c.key-key.ensures, ← c.asc-asc.ensures, ← c.ascq-ascq.ensures)
+    (tells _ _ _ _ _ _ _ _ _ (NewSense _ 0 0 0) c.requires.count_le_whole c.told.ensures c.tell.ensures c.wipe.ensures)

@@ -1,0 +1,8 @@
+-- `tables::head::attend` meets its contract. Assumes nothing.
+use Rattle.std.proofs.Common.{◌∙◌, rules}
+use Rattle.rules.specs.Tables.{attended}
+use Rattle.tables.proofs.head.attend.Goals as goal
+
+pub returns : goal.returns
+unfolding attended
+returns c = c.put_two.ensures ∙ rw c.attention_at.ensures

@@ -1,0 +1,6 @@
+-- `tables::runs` meets its contract. Assumes nothing.
+use Rattle.std.proofs.Common.{◌∙◌, rules}
+use Rattle.tables.proofs.runs.Goals as goal
+
+pub returns : goal.returns
+returns c = c.sorted.ensures ∙ rw c.BAD.ranges-2.ensures
