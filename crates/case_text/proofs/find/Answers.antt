@@ -12,8 +12,7 @@ pub loop-i-init : goal.loop-i-init
 loop-i-init c = (omega arith, omega arith, refl)
 
 pub returns-then-stops_at : goal.returns-then-stops_at
-returns-then-stops_at c =
-    record { value = first-here _ _ _ c.loop-i-test.true _ c.stops_at.ensures c.if-stops_at.true ∙ sym c.loop-i.invariant.2; lower_bound = search rules }
+returns-then-stops_at c = record { value = first-here _ _ _ c.loop-i-test.true _ c.stops_at.ensures c.if-stops_at.true ∙ sym c.loop-i.invariant.2; lower_bound = search rules }
 
 pub loop-i-preserved : goal.loop-i-preserved
 loop-i-preserved c =

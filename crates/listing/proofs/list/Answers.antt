@@ -46,15 +46,13 @@ pub shortened-r-requires : goal.shortened-r-requires
 shortened-r-requires c = within c
 
 pub returns-then-room-lt-HEADER : goal.returns-then-room-lt-HEADER
-returns-then-room-lt-HEADER c =
-     record { answers = short-answers _ _ _ _ _ _ _ c.requires.listable _ (last c) _ _ _ c.if-room-lt-HEADER.true c.shortened-r.ensures; next_value = behind c }
+returns-then-room-lt-HEADER c = record { answers = short-answers _ _ _ _ _ _ _ c.requires.listable _ (last c) _ _ _ c.if-room-lt-HEADER.true c.shortened-r.ensures; next_value = behind c }
 
 pub returns-then-answer-end : goal.returns-then-answer-end
-returns-then-answer-end c =
-    (
-      rw c.numbered-r.ensures (long-refused _ _ _ _ _ _ _ c.requires.listable _ (last c) _ c.if-room-lt-HEADER.false c.if-answer-end.true),
-      behind c,
-    )
+returns-then-answer-end c = (
+  rw c.numbered-r.ensures (long-refused _ _ _ _ _ _ _ c.requires.listable _ (last c) _ c.if-room-lt-HEADER.false c.if-answer-end.true),
+  behind c,
+)
 
 pub header-requires : goal.header-requires
 header-requires c =
@@ -78,10 +76,9 @@ pub overflow_cast-end : goal.overflow_cast-end
 overflow_cast-end c = omega (arith, (within c).at)
 
 pub returns : goal.returns
-returns c =
-    (
-      rw c.told-r.ensures
-          (long-answers _ _ _ _ _ _ _ c.requires.listable _ (last c) _ _ c.if-room-lt-HEADER.false c.if-answer-end.false
-          (c.put_ranges.ensures ∙ rw (c.begin-s.ensures, c.header.ensures))),
-      behind c,
-    )
+returns c = (
+  rw c.told-r.ensures
+      (long-answers _ _ _ _ _ _ _ c.requires.listable _ (last c) _ _ c.if-room-lt-HEADER.false c.if-answer-end.false
+      (c.put_ranges.ensures ∙ rw (c.begin-s.ensures, c.header.ensures))),
+  behind c,
+)

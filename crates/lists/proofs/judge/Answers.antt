@@ -13,10 +13,10 @@ pub returns-then-mark : goal.returns-then-mark
 returns-then-mark c =
     let asked = c.requires in
     let inside = told-inside _ _ _ _ c.look_up.ensures _ c.in-Elements.is in
-     record { value = told_named _ _ _ _ asked _ inside _ c.mark.ensures.value c.if-mark.true; judged = tt }
+    (told_named _ _ _ _ asked _ inside _ c.mark.ensures.value c.if-mark.true, tt)
 
 pub returns-in-Wrong : goal.returns-in-Wrong
-returns-in-Wrong c =  record { value = told-wrong _ _ _ _ c.look_up.ensures _ c.in-Wrong.is; judged = tt }
+returns-in-Wrong c = record { value = told-wrong _ _ _ _ c.look_up.ensures _ c.in-Wrong.is; judged = tt }
 
 pub returns-else-mark : goal.returns-else-mark
 returns-else-mark c =

@@ -16,7 +16,7 @@ pub returns-then-marks-p-ne0 : goal.returns-then-marks-p-ne0
 unfolding marked
 returns-then-marks-p-ne0 c =
     let l = c.loop-p.invariant in
-     record { value = found-there _ _ _ _ l.1.from (omega (arith, l.1.from)) (as_before _ _ _ _ l.1 l.2 ∙ ne-differ _ 0 c.if-marks-p-ne0.true); marks_after = λ e. absurd (never (sym e)) }
+    (found-there _ _ _ _ l.1.from (omega (arith, l.1.from)) (as_before _ _ _ _ l.1 l.2 ∙ ne-differ _ 0 c.if-marks-p-ne0.true), λ e. absurd (never (sym e)))
 
 pub loop-p-preserved : goal.loop-p-preserved
 unfolding marked

@@ -14,7 +14,7 @@ pub returns-in_default : goal.returns-in_default
 returns-in_default c =
     let t = c.args.text.now in
     let at = c.args.at in
-    record { list_after = other-means _ _ _ (no-command t at _ (tail t at) _ _ c.decode.ensures _ _ c.in_default.is); within = other-within _ _ _ _ }
+    (other-means _ _ _ (no-command t at _ (tail t at) _ _ c.decode.ensures _ _ c.in_default.is), other-within _ _ _ _)
 
 pub overflow_add-next : goal.overflow_add-next
 overflow_add-next c =
@@ -44,7 +44,7 @@ pub returns-in_default-decode : goal.returns-in_default-decode
 returns-in_default-decode c =
     let t = c.args.text.now in
     let at = c.args.at in
-    record { list_after = other-means _ _ _ (no-parameters t at _ (tail t at) _ _ c.decode.ensures _ c.in-To.is _ (tail t (at + c.in-To.command + 1)) _ _ c.decode-2.ensures _ _ c.in_default-decode.is); within = other-within _ _ _ _ }
+    (other-means _ _ _ (no-parameters t at _ (tail t at) _ _ c.decode.ensures _ c.in-To.is _ (tail t (at + c.in-To.command + 1)) _ _ c.decode-2.ensures _ _ c.in_default-decode.is), other-within _ _ _ _)
 
 pub overflow_add-result : goal.overflow_add-result
 overflow_add-result c =

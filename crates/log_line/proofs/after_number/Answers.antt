@@ -12,25 +12,25 @@ pub returns-then-number-eq0 : goal.returns-then-number-eq0
 returns-then-number-eq0 c =
     let t = c.args.text.now in
     let at = c.args.at in
-    record { list_after = other-means _ _ _ (no-number-given _ (drop at t) c.if-number-eq0.true); within = other-within _ _ _ _ }
+    (other-means _ _ _ (no-number-given _ (drop at t) c.if-number-eq0.true), other-within _ _ _ _)
 
 pub returns-then-text-at-lt2 : goal.returns-then-text-at-lt2
 returns-then-text-at-lt2 c =
     let t = c.args.text.now in
     let at = c.args.at in
-    record { list_after = other-means _ _ _ (too_short _ (drop at t) (omega (arith, length-drop at t))); within = other-within _ _ _ _ }
+    (other-means _ _ _ (too_short _ (drop at t) (omega (arith, length-drop at t))), other-within _ _ _ _)
 
 pub returns-then-host-gt9 : goal.returns-then-host-gt9
 returns-then-host-gt9 c =
     let t = c.args.text.now in
     let at = c.args.at in
-    record { list_after = other-means _ _ _ (no-host _ (drop at t) (omega (arith, c.value_of-host.ensures, ap digit (first-at t at)))); within = other-within _ _ _ _ }
+    (other-means _ _ _ (no-host _ (drop at t) (omega (arith, c.value_of-host.ensures, ap digit (first-at t at)))), other-within _ _ _ _)
 
 pub returns-then-text-at-ne-TAB : goal.returns-then-text-at-ne-TAB
 returns-then-text-at-ne-TAB c =
     let t = c.args.text.now in
     let at = c.args.at in
-    record { list_after = other-means _ _ _ (no-host-tab _ (drop at t) (λ e. c.if-text-at-ne-TAB.true (sym (second_at t at) ∙ e))); within = other-within _ _ _ _ }
+    (other-means _ _ _ (no-host-tab _ (drop at t) (λ e. c.if-text-at-ne-TAB.true (sym (second_at t at) ∙ e))), other-within _ _ _ _)
 
 pub returns : goal.returns
 returns c =

@@ -8,8 +8,7 @@ use Rattle.log_line.proofs.Ways.{other-means, other-within, within-from, no_numb
 use Rattle.log_line.proofs.fields.Goals as goal
 
 pub returns-then-value-eq0 : goal.returns-then-value-eq0
-returns-then-value-eq0 c =
-    record { list_after = other-means _ _ _ (no_number _ (sym c.number-first.ensures.value-is ∙ c.if-value-eq0.true)); within = other-within _ _ _ _ }
+returns-then-value-eq0 c = record { list_after = other-means _ _ _ (no_number _ (sym c.number-first.ensures.value-is ∙ c.if-value-eq0.true)); within = other-within _ _ _ _ }
 
 pub overflow_add-next : goal.overflow_add-next
 overflow_add-next c =

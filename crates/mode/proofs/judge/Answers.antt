@@ -9,7 +9,7 @@ pub returns-then-room-count : goal.returns-then-room-count
 unfolding mode_by
 returns-then-room-count c =
     let n = c.whole_bytes.ensures in
-     record { value = rw (← n, ← c.cut-count.ensures) (search ladder depth 10); within = tt }
+    (rw (← n, ← c.cut-count.ensures) (search ladder depth 10), tt)
 
 pub returns : goal.returns
 unfolding mode_by

@@ -14,7 +14,7 @@ addresses-requires c =
 pub returns-then-sought : goal.returns-then-sought
 returns-then-sought c =
     let yes = sym c.sought.ensures ∙ c.if-sought.true in
-     record { d_after = rw (piece-sought _ _ _ yes) c.addresses.ensures; value = omega (arith, bytes-sought _ _ 18 yes) }
+    (rw (piece-sought _ _ _ yes) c.addresses.ensures, omega (arith, bytes-sought _ _ 18 yes))
 
 pub returns : goal.returns
 returns c =

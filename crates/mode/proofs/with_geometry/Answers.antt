@@ -31,8 +31,7 @@ pub overflow_add-result-then-sought : goal.overflow_add-result-then-sought
 overflow_add-result-then-sought c = omega (arith, all c, c.requires.0, c.well_formed)
 
 pub returns-then-sought : goal.returns-then-sought
-returns-then-sought c =
-     record { d_after = rw (piece-sought _ _ _ (asked c)) c.geometry.ensures; value = omega (arith, all c) }
+returns-then-sought c = record { d_after = rw (piece-sought _ _ _ (asked c)) c.geometry.ensures; value = omega (arith, all c) }
 
 pub returns : goal.returns
 returns c =

@@ -9,7 +9,7 @@ use Rattle.moves.proofs.exchange_at.Goals as goal
 
 pub returns-then-exchange_held : goal.returns-then-exchange_held
 unfolding exchange_at
-returns-then-exchange_held c =  record { value = search standing depth 10; within = tt }
+returns-then-exchange_held c = record { value = search standing depth 10; within = tt }
 
 pub volume-brought-requires : goal.volume-brought-requires
 unfolding places
@@ -17,7 +17,7 @@ volume-brought-requires c = search rules
 
 pub returns-then-brought-eq0 : goal.returns-then-brought-eq0
 unfolding exchange_at
-returns-then-brought-eq0 c =  record { value = search standing depth 10; within = tt }
+returns-then-brought-eq0 c = record { value = search standing depth 10; within = tt }
 
 pub volume-displaced-requires : goal.volume-displaced-requires
 unfolding places
@@ -25,38 +25,36 @@ volume-displaced-requires c = search rules
 
 pub returns-then-displaced-eq0 : goal.returns-then-displaced-eq0
 unfolding exchange_at
-returns-then-displaced-eq0 c =  record { value = search standing depth 10; within = tt }
+returns-then-displaced-eq0 c = record { value = search standing depth 10; within = tt }
 
 pub returns-then-hinders : goal.returns-then-hinders
 unfolding exchange_at
-returns-then-hinders c =  record { value = search standing depth 10; within = tt }
+returns-then-hinders c = record { value = search standing depth 10; within = tt }
 
 pub returns-then-unfit : goal.returns-then-unfit
 unfolding exchange_at
-returns-then-unfit c =  record { value = search standing depth 12; within = tt }
+returns-then-unfit c = record { value = search standing depth 12; within = tt }
 
 pub returns-then-unfit-2 : goal.returns-then-unfit-2
 unfolding exchange_at
-returns-then-unfit-2 c =
-    (
-      no _ _ _ _ _ c.exchange_held.ensures c.if-exchange_held.false
-          (eq_no _ _ _ _ _ _ c.volume-brought.ensures c.if-brought-eq0.false
-          (eq_no _ _ _ _ _ _ c.volume-displaced.ensures c.if-displaced-eq0.false
-          (no _ _ _ _ _ c.hinders.ensures c.if-hinders.false
-          (no _ _ _ _ _ (unfit-by _ _ _ _ _ _ _ _ _ c.unfit.ensures c.word_at-nearer.ensures c.volume-brought.ensures) c.if-unfit.false
-          (yes _ _ _ _ _ (unfit-by _ _ _ _ _ _ _ _ _ c.unfit-2.ensures c.word_at-farther.ensures c.volume-displaced.ensures) c.if-unfit-2.true refl))))),
-      tt,
-    )
+returns-then-unfit-2 c = (
+  no _ _ _ _ _ c.exchange_held.ensures c.if-exchange_held.false
+      (eq_no _ _ _ _ _ _ c.volume-brought.ensures c.if-brought-eq0.false
+      (eq_no _ _ _ _ _ _ c.volume-displaced.ensures c.if-displaced-eq0.false
+      (no _ _ _ _ _ c.hinders.ensures c.if-hinders.false
+      (no _ _ _ _ _ (unfit-by _ _ _ _ _ _ _ _ _ c.unfit.ensures c.word_at-nearer.ensures c.volume-brought.ensures) c.if-unfit.false
+      (yes _ _ _ _ _ (unfit-by _ _ _ _ _ _ _ _ _ c.unfit-2.ensures c.word_at-farther.ensures c.volume-displaced.ensures) c.if-unfit-2.true refl))))),
+  tt,
+)
 
 pub returns : goal.returns
 unfolding exchange_at
-returns c =
-    (
-      no _ _ _ _ _ c.exchange_held.ensures c.if-exchange_held.false
-          (eq_no _ _ _ _ _ _ c.volume-brought.ensures c.if-brought-eq0.false
-          (eq_no _ _ _ _ _ _ c.volume-displaced.ensures c.if-displaced-eq0.false
-          (no _ _ _ _ _ c.hinders.ensures c.if-hinders.false
-          (no _ _ _ _ _ (unfit-by _ _ _ _ _ _ _ _ _ c.unfit.ensures c.word_at-nearer.ensures c.volume-brought.ensures) c.if-unfit.false
-          (no _ _ _ _ _ (unfit-by _ _ _ _ _ _ _ _ _ c.unfit-2.ensures c.word_at-farther.ensures c.volume-displaced.ensures) c.if-unfit-2.false (exchanges-by _ _ _ _ _ _ _ c.volume-brought.ensures c.volume-displaced.ensures)))))),
-      c.requires.1.1.1,
-    )
+returns c = (
+  no _ _ _ _ _ c.exchange_held.ensures c.if-exchange_held.false
+      (eq_no _ _ _ _ _ _ c.volume-brought.ensures c.if-brought-eq0.false
+      (eq_no _ _ _ _ _ _ c.volume-displaced.ensures c.if-displaced-eq0.false
+      (no _ _ _ _ _ c.hinders.ensures c.if-hinders.false
+      (no _ _ _ _ _ (unfit-by _ _ _ _ _ _ _ _ _ c.unfit.ensures c.word_at-nearer.ensures c.volume-brought.ensures) c.if-unfit.false
+      (no _ _ _ _ _ (unfit-by _ _ _ _ _ _ _ _ _ c.unfit-2.ensures c.word_at-farther.ensures c.volume-displaced.ensures) c.if-unfit-2.false (exchanges-by _ _ _ _ _ _ _ c.volume-brought.ensures c.volume-displaced.ensures)))))),
+  c.requires.1.1.1,
+)

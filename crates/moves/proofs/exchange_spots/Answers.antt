@@ -8,15 +8,15 @@ use Rattle.moves.proofs.exchange_spots.Goals as goal
 
 pub returns-then-from-le-TRANSPORT : goal.returns-then-from-le-TRANSPORT
 unfolding exchange_spots
-returns-then-from-le-TRANSPORT c =  record { value = search looking depth 14; within = tt }
+returns-then-from-le-TRANSPORT c = record { value = search looking depth 14; within = tt }
 
 pub returns-then-first-le-TRANSPORT : goal.returns-then-first-le-TRANSPORT
 unfolding exchange_spots
-returns-then-first-le-TRANSPORT c =  record { value = search looking depth 14; within = tt }
+returns-then-first-le-TRANSPORT c = record { value = search looking depth 14; within = tt }
 
 pub returns-then-second-le-TRANSPORT : goal.returns-then-second-le-TRANSPORT
 unfolding exchange_spots
-returns-then-second-le-TRANSPORT c =  record { value = search looking depth 14; within = tt }
+returns-then-second-le-TRANSPORT c = record { value = search looking depth 14; within = tt }
 
 pub returns-then-nearer-source : goal.returns-then-nearer-source
 unfolding exchange_spots

@@ -7,15 +7,15 @@ use Rattle.moves.proofs.move_at.Goals as goal
 
 pub returns-then-place_held : goal.returns-then-place_held
 unfolding move_at
-returns-then-place_held c =  record { value = search standing depth 10; within = tt }
+returns-then-place_held c = record { value = search standing depth 10; within = tt }
 
 pub returns-then-place_held-2 : goal.returns-then-place_held-2
 unfolding move_at
-returns-then-place_held-2 c =  record { value = search standing depth 10; within = tt }
+returns-then-place_held-2 c = record { value = search standing depth 10; within = tt }
 
 pub returns-then-place_held-3 : goal.returns-then-place_held-3
 unfolding move_at
-returns-then-place_held-3 c =  record { value = search standing depth 10; within = tt }
+returns-then-place_held-3 c = record { value = search standing depth 10; within = tt }
 
 pub volume-volume-requires : goal.volume-volume-requires
 unfolding places
@@ -23,7 +23,7 @@ volume-volume-requires c = search rules
 
 pub returns-then-volume-eq0 : goal.returns-then-volume-eq0
 unfolding move_at
-returns-then-volume-eq0 c =  record { value = search standing depth 10; within = tt }
+returns-then-volume-eq0 c = record { value = search standing depth 10; within = tt }
 
 pub volume-requires : goal.volume-requires
 unfolding places
@@ -31,11 +31,11 @@ volume-requires c = search rules
 
 pub returns-then-volume-ne0 : goal.returns-then-volume-ne0
 unfolding move_at
-returns-then-volume-ne0 c =  record { value = search standing depth 10; within = tt }
+returns-then-volume-ne0 c = record { value = search standing depth 10; within = tt }
 
 pub returns-then-unfit : goal.returns-then-unfit
 unfolding move_at
-returns-then-unfit c =  record { value = search standing depth 12; within = tt }
+returns-then-unfit c = record { value = search standing depth 12; within = tt }
 
 pub returns : goal.returns
 unfolding move_at

@@ -12,13 +12,13 @@ overflow_cast-block c = search (rules, c.shared_slice_known-3-1.given 4)
 
 pub returns-then-room-count : goal.returns-then-room-count
 unfolding sense_by byte
-returns-then-room-count c =  record { value = rw (sym c.cut-count.ensures) (search ladder depth 10); within = tt }
+returns-then-room-count c = record { value = rw (sym c.cut-count.ensures) (search ladder depth 10); within = tt }
 
 pub returns-then-tells_attention : goal.returns-then-tells_attention
 unfolding sense_by byte
 returns-then-tells_attention c =
     let n = c.cut-count.ensures in
-     record { value = rw (sym n) (search ladder depth 10); within = (rw n (least-most _ _), search rules) }
+    (rw (sym n) (search ladder depth 10), (rw n (least-most _ _), search rules))
 
 pub returns : goal.returns
 unfolding sense_by byte

@@ -5,10 +5,10 @@ use Rattle.std.proofs.Common.{rules}
 use Rattle.sound.proofs.check.Goals as goal
 
 pub returns-then-head-ne-HEAD_SIZE : goal.returns-then-head-ne-HEAD_SIZE
-returns-then-head-ne-HEAD_SIZE c =  record { sound_value = no-head _ _ _ c.if-head-ne-HEAD_SIZE.true; runs = never }
+returns-then-head-ne-HEAD_SIZE c = record { sound_value = no-head _ _ _ c.if-head-ne-HEAD_SIZE.true; runs = never }
 
 pub parts_sound-sound-requires : goal.parts_sound-sound-requires
-parts_sound-sound-requires c = (c.if-head-ne-HEAD_SIZE.false, (c.BAD.ranges-2.ensures, runs_of _ _ _ c.BAD.ranges-2.ensures c.sorted-runs.ensures))
+parts_sound-sound-requires c = (c.if-head-ne-HEAD_SIZE.false, (c.ranges-rs.ensures, runs_of _ _ _ c.ranges-rs.ensures c.sorted-runs.ensures))
 
 pub returns : goal.returns
-returns c = record { sound_value = c.parts_sound-sound.ensures; runs = λ e. runs_of _ _ _ c.BAD.ranges-2.ensures c.sorted-runs.ensures }
+returns c = record { sound_value = c.parts_sound-sound.ensures; runs = λ e. runs_of _ _ _ c.ranges-rs.ensures c.sorted-runs.ensures }

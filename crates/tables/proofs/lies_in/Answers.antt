@@ -4,4 +4,4 @@ use Rattle.tables.proofs.Spots.{lies-wrapped}
 use Rattle.tables.proofs.lies_in.Goals as goal
 
 pub returns : goal.returns
-returns c = lies-wrapped _ _ _ c.wrapping_sub_u32-within.ensures (search rules) (search rules) (search rules) (search rules)
+returns c = lies-wrapped _ _ _ c.wrapping_sub_u32-within.ensures.value (search rules) (search rules) (search rules) (search rules)

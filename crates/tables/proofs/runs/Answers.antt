@@ -3,4 +3,4 @@ use Rattle.std.proofs.Common.{◌∙◌, rules}
 use Rattle.tables.proofs.runs.Goals as goal
 
 pub returns : goal.returns
-returns c = c.sorted.ensures ∙ rw c.BAD.ranges-2.ensures
+returns c = c.sorted.ensures ∙ rw c.ranges-2.ensures

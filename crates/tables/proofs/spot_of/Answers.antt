@@ -11,19 +11,19 @@ pub returns-then-lies_in : goal.returns-then-lies_in
 returns-then-lies_in c = spot-by _ (search rules) _ _ (c.spot_in.ensures ∙ search ladder depth 10)
 
 pub spot_in-requires-then-lies_in-2 : goal.spot_in-requires-then-lies_in-2
-spot_in-requires-then-lies_in-2 c = (sym c.lies_in-2.ensures ∙ c.if-lies_in-2.true, search rules)
+spot_in-requires-then-lies_in-2 c = record { address_value = sym c.lies_in-2.ensures ∙ c.if-lies_in-2.true; passed_bound = search rules }
 
 pub returns-then-lies_in-2 : goal.returns-then-lies_in-2
 returns-then-lies_in-2 c = spot-by _ (search rules) _ _ (c.spot_in-then-lies_in-2.ensures ∙ search ladder depth 10)
 
 pub spot_in-requires-then-lies_in-3 : goal.spot_in-requires-then-lies_in-3
-spot_in-requires-then-lies_in-3 c = (sym c.lies_in-3.ensures ∙ c.if-lies_in-3.true, search rules)
+spot_in-requires-then-lies_in-3 c = record { address_value = sym c.lies_in-3.ensures ∙ c.if-lies_in-3.true; passed_bound = search rules }
 
 pub returns-then-lies_in-3 : goal.returns-then-lies_in-3
 returns-then-lies_in-3 c = spot-by _ (search rules) _ _ (c.spot_in-then-lies_in-3.ensures ∙ search ladder depth 10)
 
 pub spot_in-requires-then-lies_in-4 : goal.spot_in-requires-then-lies_in-4
-spot_in-requires-then-lies_in-4 c = (sym c.lies_in-4.ensures ∙ c.if-lies_in-4.true, search rules)
+spot_in-requires-then-lies_in-4 c = record { address_value = sym c.lies_in-4.ensures ∙ c.if-lies_in-4.true; passed_bound = search rules }
 
 pub returns-then-lies_in-4 : goal.returns-then-lies_in-4
 returns-then-lies_in-4 c =
