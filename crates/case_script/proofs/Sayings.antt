@@ -11,7 +11,6 @@ use Rattle.rules.proofs.Ladder.{yes, no, eq_is, eq-not, eq_yes, eq_no, lt-is, lt
 use Rattle.case_text.specs.declared.number.Number.{Number}
 use Rattle.case_text.specs.declared.number.Number.TheVariants.{Is, Bad}
 use Rattle.case_text.specs.declared.bytes.Bytes.{Bytes}
-use Rattle.case_text.specs.declared.bytes.Bytes.TheVariants.{Count, Stop}
 use Rattle.case_script.specs.declared.Taken.{Taken}
 use Rattle.case_script.specs.declared.Taken.TheVariants.{Took, Missing}
 use Rattle.case_script.specs.declared.Line.{Line}

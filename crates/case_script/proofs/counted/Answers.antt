@@ -2,7 +2,6 @@
 use mathlib.Core.Path.{sym, ap, ◌∙◌}
 use Rattle.case_script.specs.declared.Reading.TheVariants.{Says}
 use Rattle.case_script.specs.Lines.{counted}
-use borrow.Author.Rules.{rules}
 use Rattle.case_script.proofs.counted.Goals as goal
 
 pub returns-in-Stop : goal.returns-in-Stop

@@ -1,6 +1,5 @@
 -- `case_script::finish` meets its contract. Assumes nothing.
 use Rattle.case_script.proofs.Sayings.{left_over_lem, all_said}
-use borrow.Author.Rules.{rules}
 use Rattle.case_script.proofs.finish.Goals as goal
 
 pub returns-then-from-text : goal.returns-then-from-text

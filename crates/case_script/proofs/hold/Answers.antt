@@ -2,7 +2,6 @@
 use mathlib.Core.Path.{refl, sym, ap, ◌∙◌}
 use Rattle.case_script.specs.Lines.{exactly}
 use Rattle.rules.proofs.Ladder.{yes, no}
-use borrow.Author.Rules.{rules}
 use Rattle.case_script.proofs.hold.Goals as goal
 
 pub returns-then-miscounted : goal.returns-then-miscounted

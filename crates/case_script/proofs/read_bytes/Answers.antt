@@ -1,7 +1,6 @@
 -- `case_script::read_bytes` meets its contract. Assumes nothing.
 use Rattle.case_script.proofs.Sayings.{given-read}
 use Rattle.case_script.specs.Lines.{many_bytes}
-use borrow.Author.Rules.{rules}
 use Rattle.case_script.proofs.read_bytes.Goals as goal
 
 pub returns : goal.returns

@@ -2,7 +2,6 @@
 use mathlib.Core.Path.{sym}
 use lib.Seq.{length-take-le}
 use Rattle.case_script.proofs.Bounds.{line-is, line-inside}
-use borrow.Author.Rules.{rules}
 use Rattle.case_script.proofs.read_line.Goals as goal
 
 pub slice_bounds-read_text-end : goal.slice_bounds-read_text-end
@@ -11,4 +10,4 @@ slice_bounds-read_text-end c = sym (length-take-le _ _ c.find-end.ensures.lower_
 pub returns : goal.returns
 returns c =
     let find = c.find-end.ensures in
-    (line-is _ _ _ find.0 find.1.1 _ _ c.read_text.ensures _ c.uncommented.ensures, line-inside _ _ _ find.0 find.1.1 _ _ c.read_text.ensures _ c.uncommented.ensures)
+    record { bytes_after = line-is _ _ _ find.value find.lower_bound.1 _ _ c.read_text.ensures _ c.uncommented.ensures; inside = line-inside _ _ _ find.value find.lower_bound.1 _ _ c.read_text.ensures _ c.uncommented.ensures }

@@ -2,7 +2,6 @@
 use Rattle.case_script.proofs.Sayings.{given-read}
 use mathlib.Core.Path.{sym}
 use Rattle.case_script.specs.Lines.{log_read}
-use borrow.Author.Rules.{rules}
 use Rattle.case_script.proofs.read_log.Goals as goal
 
 pub returns : goal.returns

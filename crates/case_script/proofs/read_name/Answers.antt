@@ -1,6 +1,5 @@
 -- `case_script::read_name` meets its contract. Assumes nothing.
 use Rattle.case_script.proofs.Sayings.{name-missing, name-read}
-use borrow.Author.Rules.{rules}
 use Rattle.case_script.proofs.read_name.Goals as goal
 
 pub returns-then-from-text : goal.returns-then-from-text

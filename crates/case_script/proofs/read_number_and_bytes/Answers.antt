@@ -1,6 +1,5 @@
 -- `case_script::read_number_and_bytes` meets its contract. Assumes nothing.
 use Rattle.case_script.proofs.Sayings.{within, number-none, number-bytes}
-use borrow.Author.Rules.{rules}
 use Rattle.case_script.proofs.read_number_and_bytes.Goals as goal
 
 pub read_bytes-requires : goal.read_bytes-requires

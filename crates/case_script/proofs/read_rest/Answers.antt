@@ -1,6 +1,5 @@
 -- `case_script::read_rest` meets its contract. Assumes nothing.
 use Rattle.case_script.proofs.Sayings.{shape-name, shape-tables, shape-nothing, shape_one, shape_two, shape-bytes, shape-text, shape-number-bytes}
-use borrow.Author.Rules.{rules}
 use Rattle.case_script.proofs.read_rest.Goals as goal
 
 pub returns-then-shape-eq-NAME : goal.returns-then-shape-eq-NAME

@@ -1,7 +1,6 @@
 -- `case_script::read_second` meets its contract. Assumes nothing.
 use Rattle.case_script.proofs.Sayings.{within, after-missing, after-taken}
 use Rattle.case_script.specs.Lines.{second_number}
-use borrow.Author.Rules.{rules}
 use Rattle.case_script.proofs.read_second.Goals as goal
 
 pub finish-requires : goal.finish-requires

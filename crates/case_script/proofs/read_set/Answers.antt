@@ -1,6 +1,5 @@
 -- `case_script::read_set` meets its contract. Assumes nothing.
 use Rattle.case_script.proofs.Sayings.{bare-within, set-unknown, set-read, set-not}
-use borrow.Author.Rules.{rules}
 use Rattle.case_script.proofs.read_set.Goals as goal
 
 pub returns-then-word-eq0 : goal.returns-then-word-eq0

@@ -1,6 +1,5 @@
 -- `case_script::read_tables` meets its contract. Assumes nothing.
 use Rattle.case_script.proofs.Sayings.{tables-missing, no-tables, tables-read}
-use borrow.Author.Rules.{rules}
 use Rattle.case_script.proofs.read_tables.Goals as goal
 
 pub returns-then-from-text : goal.returns-then-from-text

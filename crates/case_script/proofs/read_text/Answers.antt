@@ -1,7 +1,6 @@
 -- `case_script::read_text` meets its contract. Assumes nothing.
 use Rattle.case_script.proofs.Sayings.{bare-within, text-blank, text-set, text-unknown, text-said}
 use Rattle.case_text.specs.Text.{letters}
-use borrow.Author.Rules.{rules}
 use Rattle.case_script.proofs.read_text.Goals as goal
 
 pub returns-then-from-text : goal.returns-then-from-text

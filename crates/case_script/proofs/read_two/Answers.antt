@@ -1,7 +1,6 @@
 -- `case_script::read_two` meets its contract. Assumes nothing.
 use Rattle.case_script.proofs.Sayings.{within, after-missing, after-taken}
 use Rattle.case_script.specs.Lines.{two_numbers}
-use borrow.Author.Rules.{rules}
 use Rattle.case_script.proofs.read_two.Goals as goal
 
 pub read_second-requires : goal.read_second-requires

@@ -3,7 +3,6 @@ use mathlib.Core.Path.{refl}
 use Rattle.rules.proofs.Ladder.{yes, no}
 use Rattle.case_text.specs.Text.{letters}
 use Rattle.case_script.specs.Lines.{tables_named}
-use borrow.Author.Rules.{rules}
 use Rattle.case_script.proofs.tables_named.Goals as goal
 
 pub returns-then-same : goal.returns-then-same

@@ -2,7 +2,6 @@
 use mathlib.Core.Path.{refl, sym, ap, ◌∙◌}
 use Rattle.case_script.specs.Lines.{uncommented}
 use Rattle.rules.proofs.Ladder.{lt-is, lt_not, differ-is, differ-not}
-use borrow.Author.Rules.{rules}
 use Rattle.case_script.proofs.uncommented.Goals as goal
 
 pub returns-then-line-ne-LOG : goal.returns-then-line-ne-LOG

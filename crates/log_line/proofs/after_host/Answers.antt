@@ -14,7 +14,7 @@ pub returns-in_default : goal.returns-in_default
 returns-in_default c =
     let t = c.args.text.now in
     let at = c.args.at in
-    (other-means _ _ _ (no-command t at _ (tail t at) _ _ c.decode.ensures _ _ c.in_default.is), other-within _ _ _ _)
+    record { list_after = other-means _ _ _ (no-command t at _ (tail t at) _ _ c.decode.ensures _ _ c.in_default.is); within = other-within _ _ _ _ }
 
 pub overflow_add-next : goal.overflow_add-next
 overflow_add-next c =
@@ -24,6 +24,12 @@ overflow_add-next c =
 
 pub overflow_add-next-2 : goal.overflow_add-next-2
 overflow_add-next-2 c =
+    let t = c.args.text.now in
+    let at = c.args.at in
+    omega (arith, command-there t at _ (tail t at) _ _ c.decode.ensures _ c.in-To.is)
+
+pub slice_bounds-decode-start-2 : goal.slice_bounds-decode-start-2
+slice_bounds-decode-start-2 c =
     let t = c.args.text.now in
     let at = c.args.at in
     omega (arith, command-there t at _ (tail t at) _ _ c.decode.ensures _ c.in-To.is)
@@ -38,13 +44,13 @@ pub decode-requires-2 : goal.decode-requires-2
 decode-requires-2 c =
     let t = c.args.text.now in
     let at = c.args.at in
-    (c.requires.tabled, (feed-marks, part-fits t (at + c.in-To.command + 1) _ c.requires.room.for-list))
+    record { tabled = c.requires.tabled; bound = (feed-marks, part-fits t (at + c.in-To.command + 1) _ c.requires.room.for-list) }
 
 pub returns-in_default-decode : goal.returns-in_default-decode
 returns-in_default-decode c =
     let t = c.args.text.now in
     let at = c.args.at in
-    (other-means _ _ _ (no-parameters t at _ (tail t at) _ _ c.decode.ensures _ c.in-To.is _ (tail t (at + c.in-To.command + 1)) _ _ c.decode-2.ensures _ _ c.in_default-decode.is), other-within _ _ _ _)
+    record { list_after = other-means _ _ _ (no-parameters t at _ (tail t at) _ _ c.decode.ensures _ c.in-To.is _ (tail t (at + c.in-To.command + 1)) _ _ c.decode-2.ensures _ _ c.in_default-decode.is); within = other-within _ _ _ _ }
 
 pub overflow_add-result : goal.overflow_add-result
 overflow_add-result c =
@@ -56,4 +62,7 @@ pub returns : goal.returns
 returns c =
     let t = c.args.text.now in
     let at = c.args.at in
-    (both-fields t at _ (tail t at) _ _ c.decode.ensures _ c.in-To.is _ (tail t (at + c.in-To.command + 1)) _ _ c.decode-2.ensures _ c.in-To-decode.is _ _, both-held t at _ (tail t at) _ _ c.decode.ensures _ c.in-To.is _ (tail t (at + c.in-To.command + 1)) _ _ c.decode-2.ensures _ c.in-To-decode.is _ _ (search rules) (search rules))
+    record {
+      list_after = both-fields t at _ (tail t at) _ _ c.decode.ensures _ c.in-To.is _ (tail t (at + c.in-To.command + 1)) _ _ c.decode-2.ensures _ c.in-To-decode.is _ _;
+      within = both-held t at _ (tail t at) _ _ c.decode.ensures _ c.in-To.is _ (tail t (at + c.in-To.command + 1)) _ _ c.decode-2.ensures _ c.in-To-decode.is _ _ (search rules) (search rules);
+    }

@@ -1,9 +1,7 @@
 -- `log_line::decode` meets its contract. Assumes nothing.
 use borrow.Author.Rules.{rules}
-use Prim.Native.Nat.{◌*◌, ◌-◌, ◌≤◌}
-use mathlib.Core.Path.{◌≡◌, refl}
-use lib.ListN.{length}
-use Rattle.log_line.proofs.Digits.{Decoding, starts, ended, found, no-high, alone, no-low, goes_on}
+use mathlib.Core.Path.{refl}
+use Rattle.log_line.proofs.Digits.{starts, ended, found, no-high, alone, no-low, goes_on}
 use Rattle.log_line.proofs.decode.Goals as goal
 
 pub loop-n-init : goal.loop-n-init

@@ -1,9 +1,8 @@
 -- `log_line::decode` meets its contract. Assumes nothing.
-use borrow.Author.Rules.{rules}
 use Prim.Native.Nat.{◌*◌, ◌-◌, ◌≤◌}
-use mathlib.Core.Path.{◌≡◌, refl}
+use mathlib.Core.Path.{◌≡◌}
 use lib.ListN.{length}
-use Rattle.log_line.proofs.Digits.{Decoding, starts, ended, found, no-high, alone, no-low, goes_on}
+use Rattle.log_line.proofs.Digits.{Decoding}
 use Rattle.log_line.proofs.decode.Given as goal
 
 abbrev pub invariant-loop-n : goal.invariant-loop-n

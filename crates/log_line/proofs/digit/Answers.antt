@@ -1,7 +1,6 @@
 -- `log_line::digit` meets its contract. Assumes nothing.
 use Rattle.rules.specs.Log.{digit}
 use Rattle.rules.proofs.Ladder.{ladder}
-use borrow.Author.Rules.{rules}
 use Rattle.log_line.proofs.digit.Goals as goal
 
 pub returns-then-b-lt48 : goal.returns-then-b-lt48

@@ -1,8 +1,6 @@
 -- `log_line::number` meets its contract. Assumes nothing.
 use borrow.Author.Rules.{rules}
-use Prim.Native.Nat.{◌-◌}
-use lib.ListN.{length}
-use Rattle.log_line.proofs.Numbers.{Counting, none, no_text, zero-first, starts, ended, found, no_digit, too_large, goes_on}
+use Rattle.log_line.proofs.Numbers.{none, no_text, zero-first, starts, ended, found, no_digit, too_large, goes_on}
 use Rattle.log_line.proofs.number.Goals as goal
 
 pub returns-then-text-eq0 : goal.returns-then-text-eq0

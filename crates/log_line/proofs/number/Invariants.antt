@@ -1,8 +1,7 @@
 -- `log_line::number` meets its contract. Assumes nothing.
-use borrow.Author.Rules.{rules}
 use Prim.Native.Nat.{◌-◌}
 use lib.ListN.{length}
-use Rattle.log_line.proofs.Numbers.{Counting, none, no_text, zero-first, starts, ended, found, no_digit, too_large, goes_on}
+use Rattle.log_line.proofs.Numbers.{Counting}
 use Rattle.log_line.proofs.number.Given as goal
 
 abbrev pub invariant-loop-i : goal.invariant-loop-i

@@ -1,5 +1,4 @@
 -- `log_line::read_line` meets its contract. Assumes nothing.
-use borrow.Author.Rules.{rules}
 use mathlib.Core.Path.{sym, ◌∙◌}
 use Rattle.log_line.proofs.Reach.{reached, room, read-reach, within-reach}
 use Rattle.log_line.proofs.read_line.Goals as goal

@@ -1,9 +1,8 @@
 -- `log_line::tabulate` meets its contract. Assumes nothing.
 use borrow.Author.Rules.{rules}
-use Prim.Native.Nat.{◌-◌}
 use native.Mathlib.Omega.{arith}
 use mathlib.Core.Path.{sym, ◌∙◌}
-use Rattle.log_line.proofs.Table.{Filled, empty, fills, full}
+use Rattle.log_line.proofs.Table.{empty, fills, full}
 use Rattle.log_line.proofs.tabulate.Goals as goal
 
 pub loop-b-init : goal.loop-b-init

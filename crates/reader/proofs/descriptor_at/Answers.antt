@@ -1,5 +1,4 @@
 -- `reader::descriptor_at` meets its contract. Assumes nothing.
-use borrow.Author.Rules.{rules}
 use Rattle.reader.proofs.Places.{step_is}
 use Rattle.reader.proofs.descriptor_at.Goals as goal
 

@@ -3,7 +3,6 @@ use mathlib.Core.Path.{refl}
 use Rattle.rules.proofs.Ladder.{le_is, le_not}
 use Rattle.case_text.specs.Text.{letters}
 use Rattle.case_script.specs.Names.{class_of}
-use borrow.Author.Rules.{rules}
 use Rattle.case_script.proofs.class.of.Goals as goal
 
 pub returns-then-word-le-LAST : goal.returns-then-word-le-LAST

@@ -2,7 +2,6 @@
 use mathlib.Core.Path.{sym}
 use Rattle.case_script.specs.Names.{settable}
 use Rattle.rules.proofs.Ladder.{ladder}
-use borrow.Author.Rules.{rules}
 use Rattle.case_script.proofs.name.can_be_set.Goals as goal
 
 pub returns-then-class-eq-ELEMENT : goal.returns-then-class-eq-ELEMENT

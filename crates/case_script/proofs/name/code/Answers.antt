@@ -1,7 +1,6 @@
 -- `case_script::name::code` meets its contract. Assumes nothing.
 use Rattle.case_text.specs.Text.{letters}
 use Rattle.case_script.specs.Names.{names, code_of}
-use borrow.Author.Rules.{rules}
 use Rattle.case_script.proofs.name.code.Goals as goal
 
 pub returns : goal.returns

@@ -1,10 +1,8 @@
 -- `case_script::name::place_among` meets its contract. Assumes nothing.
-use borrow.Author.Rules.{rules}
-use mathlib.Core.Path.{◌≡◌, sym, ◌∙◌}
+use mathlib.Core.Path.{◌≡◌}
 use Prim.Native.Nat.{◌≤◌, ◌+◌, ◌-◌}
 use lib.ListN.{length}
 use Rattle.case_script.specs.Names.{place_from}
-use Rattle.case_script.proofs.Places.{place-start, place_here, place-on, place_none}
 use Rattle.case_script.proofs.name.place_among.Given as goal
 
 abbrev pub invariant-loop-k : goal.invariant-loop-k
