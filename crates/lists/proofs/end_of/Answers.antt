@@ -1,5 +1,4 @@
 -- `lists::end_of` meets its contract. Assumes nothing.
-use borrow.Author.Rules.{rules}
 use Rattle.lists.proofs.Faults.{end-all, end-some}
 use Rattle.lists.proofs.end_of.Goals as goal
 

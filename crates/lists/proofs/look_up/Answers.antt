@@ -1,6 +1,5 @@
 -- `lists::look_up` meets its contract. Assumes nothing.
 use native.Mathlib.Omega.{arith}
-use borrow.Author.Rules.{rules}
 use Rattle.rules.specs.Holds.{descriptors}
 use Rattle.tables.proofs.LookUp.{at-below}
 use Rattle.lists.proofs.Faults.{look-reserved, look-unknown, look-many, look-named}

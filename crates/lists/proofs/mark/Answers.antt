@@ -1,11 +1,10 @@
 -- `lists::mark`: at the loop's head the places before p are marked, and none of them was. Assumes nothing.
-use Prim.Native.Nat.{◌≤◌, ◌-◌}
 use native.Mathlib.Omega.{arith}
 use mathlib.Core.Path.{sym, ◌∙◌}
 use borrow.Author.Rules.{rules}
 use Rattle.rules.proofs.Ladder.{never, eq-differ, ne-differ}
-use Rattle.rules.proofs.Loops.{Failed, failed-none, failed-more, found-there, found_nowhere, Turned, turned_none, turned-all}
-use Rattle.lists.specs.Named.{marked, mark_at}
+use Rattle.rules.proofs.Loops.{failed-none, failed-more, found-there, found_nowhere, turned_none, turned-all}
+use Rattle.lists.specs.Named.{marked}
 use Rattle.lists.proofs.Marks.{as_before, mark_on}
 use Rattle.lists.proofs.mark.Goals as goal
 
@@ -16,7 +15,7 @@ pub returns-then-marks-p-ne0 : goal.returns-then-marks-p-ne0
 unfolding marked
 returns-then-marks-p-ne0 c =
     let l = c.loop-p.invariant in
-    (found-there _ _ _ _ l.1.from (omega (arith, l.1.from)) (as_before _ _ _ _ l.1 l.2 ∙ ne-differ _ 0 c.if-marks-p-ne0.true), λ e. absurd (never (sym e)))
+    record { value = found-there _ _ _ _ l.1.from (omega (arith, l.1.from)) (as_before _ _ _ _ l.1 l.2 ∙ ne-differ _ 0 c.if-marks-p-ne0.true); marks_after = λ e. absurd (never (sym e)) }
 
 pub loop-p-preserved : goal.loop-p-preserved
 unfolding marked
@@ -27,4 +26,4 @@ loop-p-preserved c =
 pub returns : goal.returns
 returns c =
     let l = c.loop-p.invariant in
-    (found_nowhere _ _ _ _ l.2 (omega (arith, l.1.from)), λ e. turned-all _ _ _ _ _ l.1 _ (omega (arith, l.0, l.1.from)))
+    record { value = found_nowhere _ _ _ _ l.2 (omega (arith, l.1.from)); marks_after = λ e. turned-all _ _ _ _ _ l.1 _ (omega (arith, l.0, l.1.from)) }

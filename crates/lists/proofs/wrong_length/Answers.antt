@@ -1,5 +1,4 @@
 -- `lists::wrong_length` meets its contract. Assumes nothing.
-use borrow.Author.Rules.{rules}
 use Rattle.rules.proofs.Rungs.{as-choice, last-of-any}
 use Rattle.rules.specs.Choice.{differ}
 use Rattle.rules.specs.Holds.{wrong_list_length}
