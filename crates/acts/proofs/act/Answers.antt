@@ -17,13 +17,13 @@ use Rattle.acts.proofs.act.Goals as goal
 pub good-requires : goal.good-requires
 good-requires c =
     let s = c.requires.served in
-    (s.suited.ready-to-move.head-length, s.host-most)
+    record { head_size_in_bounds = s.suited.ready-to-move.head-length; host_le_hosts = s.host-most }
 
 pub request_sense-requires : goal.request_sense-requires
 unfolding meaning
 request_sense-requires c =
     let s = c.requires.served in
-    (s.suited.ready-to-move.head-length, (s.host-most, sized _ _ _ s.fitting c.in-RequestSense.is))
+    record { head_size_in_bounds = s.suited.ready-to-move.head-length; host_le_hosts = s.host-most; block_len = sized _ _ _ s.fitting c.in-RequestSense.is }
 
 pub reserve-requires : goal.reserve-requires
 unfolding meaning
@@ -42,25 +42,25 @@ pub release-requires : goal.release-requires
 unfolding meaning
 release-requires c =
     let s = c.requires.served in
-    (s.suited.ready-to-move.head-length, (s.host-most, sized _ _ _ s.fitting c.in-Release.is))
+    record { head_size_in_bounds = s.suited.ready-to-move.head-length; host_le_hosts = s.host-most; block_len = sized _ _ _ s.fitting c.in-Release.is }
 
 pub prevent_allow-requires : goal.prevent_allow-requires
 unfolding meaning
 prevent_allow-requires c =
     let s = c.requires.served in
-    (s.suited.ready-to-move.head-length, (s.host-some, (s.host-most, sized _ _ _ s.fitting c.in-PreventAllow.is)))
+    record { head_size_in_bounds = s.suited.ready-to-move.head-length; le_host = s.host-some; host_le_hosts = s.host-most; block_len = sized _ _ _ s.fitting c.in-PreventAllow.is }
 
 pub move_medium-requires : goal.move_medium-requires
 unfolding meaning
 move_medium-requires c =
     let s = c.requires.served in
-    (s.suited.ready-to-move, (s.host-some, (s.host-most, sized _ _ _ s.fitting c.in-MoveMedium.is)))
+    record { ready = s.suited.ready-to-move; le_host = s.host-some; host_le_hosts = s.host-most; block_len = sized _ _ _ s.fitting c.in-MoveMedium.is }
 
 pub exchange_medium-requires : goal.exchange_medium-requires
 unfolding meaning
 exchange_medium-requires c =
     let s = c.requires.served in
-    (s.suited.ready-to-move, (s.host-some, (s.host-most, sized _ _ _ s.fitting c.in-ExchangeMedium.is)))
+    record { ready = s.suited.ready-to-move; le_host = s.host-some; host_le_hosts = s.host-most; block_len = sized _ _ _ s.fitting c.in-ExchangeMedium.is }
 
 pub read_element_status-requires : goal.read_element_status-requires
 unfolding meaning
@@ -83,7 +83,7 @@ pub send_volume_tag-requires : goal.send_volume_tag-requires
 unfolding meaning
 send_volume_tag-requires c =
     let s = c.requires.served in
-    ((s.suited.ready-to-move.head-length, s.host-most), (s.suited.search-whole, sized _ _ _ s.fitting c.in-SendVolumeTag.is))
+    record { head_size_in_bounds = (s.suited.ready-to-move.head-length, s.host-most); search_len = (s.suited.search-whole, sized _ _ _ s.fitting c.in-SendVolumeTag.is) }
 
 pub request_volume_element_address-requires : goal.request_volume_element_address-requires
 unfolding meaning
@@ -94,7 +94,7 @@ request_volume_element_address-requires c =
 pub refuse-requires : goal.refuse-requires
 refuse-requires c =
     let s = c.requires.served in
-    (s.suited.ready-to-move.head-length, s.host-most)
+    record { head_size_in_bounds = s.suited.ready-to-move.head-length; host_le_hosts = s.host-most }
 
 pub returns-in-TestUnitReady : goal.returns-in-TestUnitReady
 unfolding act meaning

@@ -21,19 +21,19 @@ entered-requires c = tt
 
 pub shape_of-head : goal.shape_of-head
 shape_of-head c =
-    as_long _ _ _ c.least-h.ensures.value c.entered.new.1.1.0 c.entered.auto.1.1.0
+    as_long _ _ _ c.least-h.ensures.value c.entered.new.search c.entered.auto.search
 
 pub shape_of-elements : goal.shape_of-elements
 shape_of-elements c =
-    as_long _ _ _ c.least-e.ensures.value c.entered.new.1.1.1.0 c.entered.auto.1.1.1.0
+    as_long _ _ _ c.least-e.ensures.value c.entered.new.answer.0 c.entered.auto.answer.0
 
 pub shape_of-search : goal.shape_of-search
 shape_of-search c =
-    as_long _ _ _ c.least-s.ensures.value c.entered.new.1.1.1.1.1.0 c.entered.auto.1.1.1.1.1.0
+    as_long _ _ _ c.least-s.ensures.value c.entered.new.answer.1.1.0 c.entered.auto.answer.1.1.0
 
 pub shape_of-answer : goal.shape_of-answer
 shape_of-answer c =
-    as_long _ _ _ c.least-b.ensures.value c.entered.new.1.1.1.1.1.1.0 c.entered.auto.1.1.1.1.1.1.0
+    as_long _ _ _ c.least-b.ensures.value c.entered.new.answer.1.1.1.0 c.entered.auto.answer.1.1.1.0
 
 pub returns : goal.returns
 returns c =

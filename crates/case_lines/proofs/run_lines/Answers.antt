@@ -37,7 +37,7 @@ loop-at-smaller c =
 
 pub loop-at-preserved : goal.loop-at-preserved
 loop-at-preserved c =
-    let kept = c.line-progress.auto.1.1.1.1.1 in
+    let kept = c.line-progress.auto.bytes.1.1.1.1 in
     (kept.0 ∙ c.loop-at.invariant.0, kept.1.0 ∙ c.loop-at.invariant.1)
 
 pub finish-requires : goal.finish-requires

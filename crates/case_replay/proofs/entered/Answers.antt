@@ -25,13 +25,13 @@ pub smc_replay-requires : goal.smc_replay-requires
 smc_replay-requires c = tt
 
 pub shape_of-head : goal.shape_of-head
-shape_of-head c = c.smc_replay.auto.0
+shape_of-head c = c.smc_replay.auto.head
 
 pub shape_of-elements : goal.shape_of-elements
-shape_of-elements c = c.smc_replay.auto.1.0
+shape_of-elements c = c.smc_replay.auto.elements
 
 pub shape_of-search : goal.shape_of-search
-shape_of-search c = c.smc_replay.auto.1.1.1.1.1.1.0
+shape_of-search c = c.smc_replay.auto.search.1.1.1.1.0
 
 pub returns : goal.returns
 returns c =

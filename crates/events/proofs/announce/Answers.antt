@@ -9,7 +9,7 @@ pub loop-host-init : goal.loop-host-init
 loop-host-init c = (omega arith, turned_none _ 1 _)
 
 pub announce_to-requires : goal.announce_to-requires
-announce_to-requires c = let l = c.loop-host.invariant in (omega (arith, l.1.kept), omega arith)
+announce_to-requires c = let l = c.loop-host.invariant in record { head_size_in_bounds = omega (arith, l.1.kept); host_le_hosts = omega arith }
 
 pub overflow_add-host : goal.overflow_add-host
 overflow_add-host c = omega arith
@@ -19,7 +19,7 @@ loop-host-smaller c = omega arith
 
 pub loop-host-preserved : goal.loop-host-preserved
 loop-host-preserved c =
-    (omega arith, turned_more _ 1 _ _ _ c.loop-host.invariant.1 _ c.announce_to.ensures c.announce_to.auto.0)
+    (omega arith, turned_more _ 1 _ _ _ c.loop-host.invariant.1 _ c.announce_to.ensures c.announce_to.auto.head)
 
 pub shape_of-head : goal.shape_of-head
 shape_of-head c = c.loop-host.invariant.1.kept

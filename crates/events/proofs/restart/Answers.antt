@@ -11,7 +11,7 @@ pub loop-host-init : goal.loop-host-init
 loop-host-init c = (omega arith, turned_none _ 1 _)
 
 pub restart_host-requires : goal.restart_host-requires
-restart_host-requires c = let l = c.loop-host.invariant in (omega (arith, l.1.kept), omega arith)
+restart_host-requires c = let l = c.loop-host.invariant in record { head_size_in_bounds = omega (arith, l.1.kept); host_le_hosts = omega arith }
 
 pub overflow_add-host : goal.overflow_add-host
 overflow_add-host c = omega arith
@@ -21,7 +21,7 @@ loop-host-smaller c = omega arith
 
 pub loop-host-preserved : goal.loop-host-preserved
 loop-host-preserved c =
-    (omega arith, turned_more _ 1 _ _ _ c.loop-host.invariant.1 _ c.restart_host.ensures c.restart_host.auto.0)
+    (omega arith, turned_more _ 1 _ _ _ c.loop-host.invariant.1 _ c.restart_host.ensures c.restart_host.auto.head)
 
 pub shape_of-head : goal.shape_of-head
 shape_of-head c = c.loop-host.invariant.1.kept

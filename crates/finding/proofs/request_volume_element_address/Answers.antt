@@ -51,7 +51,7 @@ put_next-requires c =
 pub wipe-requires : goal.wipe-requires
 wipe-requires c =
     let s = c.requires in
-    (s.reads.long, omega (arith, s.reads.known))
+    record { head_size_in_bounds = s.reads.long; host_le_hosts = omega (arith, s.reads.known) }
 
 pub returns : goal.returns
 unfolding action next_address byte

@@ -55,7 +55,8 @@ stray-requires-in-ModeSense c = omega (arith, sized _ _ _ c.requires.fitting c.i
 
 pub page_fault-requires : goal.page_fault-requires
 unfolding meaning
-page_fault-requires c = record { head_size_in_bounds = c.requires.head_size_in_bounds; block_len = sized _ _ _ c.requires.fitting c.in-ModeSense.is }
+page_fault-requires c =
+    record { head_size_in_bounds = c.requires.head_size_in_bounds; block_len = sized _ _ _ c.requires.fitting c.in-ModeSense.is }
 
 pub stray-requires-in-SendVolumeTag : goal.stray-requires-in-SendVolumeTag
 unfolding meaning

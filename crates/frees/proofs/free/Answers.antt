@@ -16,7 +16,7 @@ free_at-requires c = omega (arith, c.places-n.ensures)
 
 pub loop-p-preserved : goal.loop-p-preserved
 loop-p-preserved c =
-    (search rules, turned_more _ 0 _ _ _ c.loop-p.invariant.1 _ c.free_at.ensures c.free_at.auto.0)
+    (search rules, turned_more _ 0 _ _ _ c.loop-p.invariant.1 _ c.free_at.ensures c.free_at.auto.elements)
 
 pub shape_of-elements : goal.shape_of-elements
 shape_of-elements c = c.loop-p.invariant.1.kept

@@ -12,11 +12,12 @@ loop-p-init c = (search rules, turned_none _ 0 _)
 
 pub settle-requires : goal.settle-requires
 unfolding places
-settle-requires c = record { element_size_in_bounds = omega (arith, c.places-n.ensures, c.loop-p.invariant.1.kept); place_lt_most_elements = omega (arith, c.places-n.ensures, c.requires) }
+settle-requires c =
+    record { element_size_in_bounds = omega (arith, c.places-n.ensures, c.loop-p.invariant.1.kept); place_lt_most_elements = omega (arith, c.places-n.ensures, c.requires) }
 
 pub loop-p-preserved : goal.loop-p-preserved
 loop-p-preserved c =
-    (search rules, turned_more _ 0 _ _ _ c.loop-p.invariant.1 _ c.settle.ensures c.settle.auto.0)
+    (search rules, turned_more _ 0 _ _ _ c.loop-p.invariant.1 _ c.settle.ensures c.settle.auto.elements)
 
 pub shape_of-elements : goal.shape_of-elements
 shape_of-elements c = c.loop-p.invariant.1.kept

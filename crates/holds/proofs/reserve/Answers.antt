@@ -11,7 +11,8 @@ returns-then-block-eq0 c rest buffer =
     ends_as _ buffer (c.reserve_unit.ensures rest buffer) (reserves-unit _ _ _ _ c.if-block-eq0.true)
 
 pub reserve_elements-requires : goal.reserve_elements-requires
-reserve_elements-requires c = record { head_size_in_bounds = c.requires.head-long; host_le_hosts = c.requires.host-known; laid_out = lays-out _ _ _ _ _ c.requires }
+reserve_elements-requires c =
+    record { head_size_in_bounds = c.requires.head-long; host_le_hosts = c.requires.host-known; laid_out = lays-out _ _ _ _ _ c.requires }
 
 pub returns : goal.returns
 unfolding byte

@@ -46,7 +46,8 @@ pub shortened-r-requires : goal.shortened-r-requires
 shortened-r-requires c = within c
 
 pub returns-then-room-lt-HEADER : goal.returns-then-room-lt-HEADER
-returns-then-room-lt-HEADER c = record { answers = short-answers _ _ _ _ _ _ _ c.requires.listable _ (last c) _ _ _ c.if-room-lt-HEADER.true c.shortened-r.ensures; next_value = behind c }
+returns-then-room-lt-HEADER c =
+    record { answers = short-answers _ _ _ _ _ _ _ c.requires.listable _ (last c) _ _ _ c.if-room-lt-HEADER.true c.shortened-r.ensures; next_value = behind c }
 
 pub returns-then-answer-end : goal.returns-then-answer-end
 returns-then-answer-end c = (
@@ -63,7 +64,7 @@ header-requires c =
 pub put_ranges-requires : goal.put_ranges-requires
 put_ranges-requires c =
     let b = c.begin-s.ensures in
-    let k = c.header.auto.0 in
+    let k = c.header.auto.d in
     let l = rw c.count-x.ensures at c.if-answer-end.false in (
       rw k l,
       (

@@ -31,7 +31,7 @@ returns-then-answer-n c =
 
 pub slice_bounds-h-end : goal.slice_bounds-h-end
 slice_bounds-h-end c =
-    omega (arith, c.cut-n.ensures, c.header.auto.0)
+    omega (arith, c.cut-n.ensures, c.header.auto.d)
 
 pub slice_bounds-copy-end : goal.slice_bounds-copy-end
 slice_bounds-copy-end c = sym (part c)
@@ -44,6 +44,6 @@ overflow_cast-n c = omega (arith, c.cut-n.ensures)
 
 pub returns : goal.returns
 returns c =
-    let h : c.header.new.0 ≡ header_at c.args.action c.args.x = c.header.ensures ∙ put_whole _ _ (header-length _ _ _ _) in
+    let h : c.header.new.d ≡ header_at c.args.action c.args.x = c.header.ensures ∙ put_whole _ _ (header-length _ _ _ _) in
     rw c.told.ensures
     (answers-told _ _ _ _ (c.copy.ensures ∙ rw (h, first c)) (short c) c.if-answer-n.false)

@@ -11,7 +11,7 @@ use Rattle.log_steps.proofs.carry_out.Goals as goal
 pub report-requires : goal.report-requires
 report-requires c =
     let s = c.requires in
-    (s.ready.head-length, (s.host-most, is-pending _ (lent _ _ bare) _ _ _ _ c.judge.ensures c.in-Pending.is))
+    record { head_size_in_bounds = s.ready.head-length; host_le_hosts = s.host-most; fact = is-pending _ (lent _ _ bare) _ _ _ _ c.judge.ensures c.in-Pending.is }
 
 pub returns-in-Pending : goal.returns-in-Pending
 unfolding on_admission

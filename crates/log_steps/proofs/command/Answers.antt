@@ -27,32 +27,32 @@ pub release-requires : goal.release-requires
 unfolding meaning
 release-requires c =
     let s = c.requires in
-    (s.ready.head-length, (s.host-most, sized _ _ _ s.fitting c.in-Release.is))
+    record { head_size_in_bounds = s.ready.head-length; host_le_hosts = s.host-most; block_len = sized _ _ _ s.fitting c.in-Release.is }
 
 pub prevent_allow-requires : goal.prevent_allow-requires
 unfolding meaning
 prevent_allow-requires c =
     let s = c.requires in
-    (s.ready.head-length, (s.host-some, (s.host-most, sized _ _ _ s.fitting c.in-PreventAllow.is)))
+    record { head_size_in_bounds = s.ready.head-length; le_host = s.host-some; host_le_hosts = s.host-most; block_len = sized _ _ _ s.fitting c.in-PreventAllow.is }
 
 pub move_medium-requires : goal.move_medium-requires
 unfolding meaning
 move_medium-requires c =
     let s = c.requires in
-    (s.ready, (s.host-some, (s.host-most, sized _ _ _ s.fitting c.in-MoveMedium.is)))
+    record { ready = s.ready; le_host = s.host-some; host_le_hosts = s.host-most; block_len = sized _ _ _ s.fitting c.in-MoveMedium.is }
 
 pub exchange_medium-requires : goal.exchange_medium-requires
 unfolding meaning
 exchange_medium-requires c =
     let s = c.requires in
-    (s.ready, (s.host-some, (s.host-most, sized _ _ _ s.fitting c.in-ExchangeMedium.is)))
+    record { ready = s.ready; le_host = s.host-some; host_le_hosts = s.host-most; block_len = sized _ _ _ s.fitting c.in-ExchangeMedium.is }
 
 pub send_volume_tag-requires : goal.send_volume_tag-requires
 unfolding meaning
 send_volume_tag-requires c =
     let s = c.requires in
     let twelve = sized _ _ _ s.fitting c.in-SendVolumeTag.is in
-    ((s.ready.head-length, s.host-most), ((s.counts twelve).whole, twelve))
+    record { head_size_in_bounds = (s.ready.head-length, s.host-most); search_len = ((s.counts twelve).whole, twelve) }
 
 pub go_on-requires : goal.go_on-requires
 unfolding meaning

@@ -9,10 +9,10 @@ pub returns-then-room-count : goal.returns-then-room-count
 unfolding mode_by
 returns-then-room-count c =
     let n = c.whole_bytes.ensures in
-    (rw (← n, ← c.cut-count.ensures) (search ladder depth 10), tt)
+    record { value = rw (← n, ← c.cut-count.ensures) (search ladder depth 10); within = tt }
 
 pub returns : goal.returns
 unfolding mode_by
 returns c =
     let n = c.whole_bytes.ensures in
-    (rw (← n, ← c.cut-count.ensures) (search ladder depth 10), (rw (c.cut-count.ensures, n) (least-most _ _), search rules))
+    record { value = rw (← n, ← c.cut-count.ensures) (search ladder depth 10); within = (rw (c.cut-count.ensures, n) (least-most _ _), search rules) }

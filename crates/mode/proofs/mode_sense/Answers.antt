@@ -11,7 +11,7 @@ pub tell-requires : goal.tell-requires
 tell-requires c =
     let pre = c.requires in
     let w = rw c.in-Tell.is at c.judge.ensures.within in
-    ((pre.head-long, pre.host-known), (rw c.page_code-code.ensures (no_more _ _ pre.answered), w))
+    record { head_size_in_bounds = (pre.head-long, pre.host-known); code_len_bound = rw c.page_code-code.ensures (no_more _ _ pre.answered); count_in_bounds = w }
 
 pub returns-in-Short : goal.returns-in-Short
 unfolding meaning outcome byte

@@ -17,19 +17,19 @@ overflow_sub-n c =
 pub with_addresses-g-requires : goal.with_addresses-g-requires
 with_addresses-g-requires c =
     let w = whole_length c.args.head.now c.args.code in
-    (omega (arith, w, c.requires.code_len_bound, c.put_two.auto.0, c.put_two-2.auto.0), c.requires.head_size_in_bounds)
+    (omega (arith, w, c.requires.code_len_bound, c.put_two.auto.xs, c.put_two-2.auto.xs), c.requires.head_size_in_bounds)
 
 pub with_geometry-c-requires : goal.with_geometry-c-requires
 with_geometry-c-requires c =
     let w = whole_length c.args.head.now c.args.code in
     rw c.transports.ensures.value
-    (omega (arith, w, c.requires.code_len_bound, c.with_addresses-g.ensures.value, c.with_addresses-g.auto.0, c.put_two.auto.0, c.put_two-2.auto.0), omega (arith, w, c.requires.code_len_bound))
+    (omega (arith, w, c.requires.code_len_bound, c.with_addresses-g.ensures.value, c.with_addresses-g.auto.d, c.put_two.auto.xs, c.put_two-2.auto.xs), omega (arith, w, c.requires.code_len_bound))
 
 pub with_capabilities-requires : goal.with_capabilities-requires
 with_capabilities-requires c =
     let w = whole_length c.args.head.now c.args.code in
     let g = rw c.transports.ensures.value at c.with_geometry-c.ensures.value in
-    omega (arith, w, g, c.requires.code_len_bound, c.with_addresses-g.ensures.value, c.with_geometry-c.auto.0, c.with_addresses-g.auto.0, c.put_two.auto.0, c.put_two-2.auto.0)
+    omega (arith, w, g, c.requires.code_len_bound, c.with_addresses-g.ensures.value, c.with_geometry-c.auto.d, c.with_addresses-g.auto.d, c.put_two.auto.xs, c.put_two-2.auto.xs)
 
 pub returns : goal.returns
 returns c =

@@ -14,9 +14,9 @@ addresses-requires c =
 pub returns-then-sought : goal.returns-then-sought
 returns-then-sought c =
     let yes = sym c.sought.ensures ∙ c.if-sought.true in
-    (rw (piece-sought _ _ _ yes) c.addresses.ensures, omega (arith, bytes-sought _ _ 18 yes))
+    record { d_after = rw (piece-sought _ _ _ yes) c.addresses.ensures; value = omega (arith, bytes-sought _ _ 18 yes) }
 
 pub returns : goal.returns
 returns c =
     let no = sym c.sought.ensures ∙ c.if-sought.false in
-    (rw (piece-passed _ _ _ no) (sym (put-nothing _ _)), omega (arith, bytes-passed _ _ 18 no))
+    record { d_after = rw (piece-passed _ _ _ no) (sym (put-nothing _ _)); value = omega (arith, bytes-passed _ _ 18 no) }

@@ -31,9 +31,10 @@ pub overflow_add-result-then-sought : goal.overflow_add-result-then-sought
 overflow_add-result-then-sought c = omega (arith, all c, c.requires.0, c.well_formed)
 
 pub returns-then-sought : goal.returns-then-sought
-returns-then-sought c = record { d_after = rw (piece-sought _ _ _ (asked c)) c.geometry.ensures; value = omega (arith, all c) }
+returns-then-sought c =
+    record { d_after = rw (piece-sought _ _ _ (asked c)) c.geometry.ensures; value = omega (arith, all c) }
 
 pub returns : goal.returns
 returns c =
     let no = sym c.sought.ensures ∙ c.if-sought.false in
-    (rw (piece-passed _ _ _ no) (sym (put-nothing _ _)), omega (arith, bytes-passed _ _ (2 * c.args.n) no))
+    record { d_after = rw (piece-passed _ _ _ no) (sym (put-nothing _ _)); value = omega (arith, bytes-passed _ _ (2 * c.args.n) no) }

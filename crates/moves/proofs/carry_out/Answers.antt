@@ -13,7 +13,7 @@ carry-requires c =
 pub recount-requires : goal.recount-requires
 recount-requires c =
     let able = c.requires.able in
-    (able.head-length, (able.few, room-to-move _ _ _ _ able _ _ _ c.in-Move.is))
+    record { head_size_in_bounds = able.head-length; head_bound = able.few; filled_bound = room-to-move _ _ _ _ able _ _ _ c.in-Move.is }
 
 pub returns-in-Move : goal.returns-in-Move
 unfolding meaning
@@ -31,7 +31,7 @@ swap-requires c =
 pub recount-requires-in-Exchange : goal.recount-requires-in-Exchange
 recount-requires-in-Exchange c =
     let able = c.requires.able in
-    (able.head-length, (able.few, room-to-exchange _ _ _ _ able _ _ _ _ _ c.in-Exchange.is))
+    record { head_size_in_bounds = able.head-length; head_bound = able.few; filled_bound = room-to-exchange _ _ _ _ able _ _ _ _ _ c.in-Exchange.is }
 
 pub returns-in-Exchange : goal.returns-in-Exchange
 unfolding meaning

@@ -32,7 +32,8 @@ returns-then-nearer-source c =
     )
 
 pub exchange_at-requires : goal.exchange_at-requires
-exchange_at-requires c = record { head_size_in_bounds = c.requires.head_size_in_bounds; block_len = c.requires.block_len; arm_bound = c.requires.arm_bound; place_bound = search recorded depth 4; place_bound_2 = search recorded depth 4; place_bound_3 = search recorded depth 4 }
+exchange_at-requires c =
+    record { head_size_in_bounds = c.requires.head_size_in_bounds; block_len = c.requires.block_len; arm_bound = c.requires.arm_bound; place_bound = search recorded depth 4; place_bound_2 = search recorded depth 4; place_bound_3 = search recorded depth 4 }
 
 pub returns : goal.returns
 unfolding exchange_spots

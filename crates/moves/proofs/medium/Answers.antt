@@ -10,7 +10,7 @@ judge-ruling-requires c =
 pub carry_out-requires : goal.carry_out-requires
 carry_out-requires c =
     let told = c.judge-ruling.ensures in
-    (judged-able _ _ _ c.requires.ready _ _ _ _ _ _ told.0 c.requires.block_len told.1, (c.requires.le_host, c.requires.host_le_hosts))
+    record { able = judged-able _ _ _ c.requires.ready _ _ _ _ _ _ told.0 c.requires.block_len told.1; le_host = c.requires.le_host; host_le_hosts = c.requires.host_le_hosts }
 
 pub returns : goal.returns
 returns c =

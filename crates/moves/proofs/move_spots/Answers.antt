@@ -7,7 +7,8 @@ use Rattle.moves.proofs.move_spots.Goals as goal
 
 pub returns-then-from-le-TRANSPORT : goal.returns-then-from-le-TRANSPORT
 unfolding move_spots
-returns-then-from-le-TRANSPORT c = record { value = place-no _ _ _ _ _ _ c.spot_of-from.ensures c.word_at.ensures c.if-from-le-TRANSPORT.true refl; within = tt }
+returns-then-from-le-TRANSPORT c =
+    record { value = place-no _ _ _ _ _ _ c.spot_of-from.ensures c.word_at.ensures c.if-from-le-TRANSPORT.true refl; within = tt }
 
 pub returns-then-to-le-TRANSPORT : goal.returns-then-to-le-TRANSPORT
 unfolding move_spots

@@ -12,7 +12,7 @@ put_triple-requires c = record { i_in_bounds = simp length-set (omega arith); v_
 
 pub shape_of-d : goal.shape_of-d
 shape_of-d c =
-    c.put_triple.auto.0 ∙ simp length-set (c.put_word-2.auto.0 ∙ c.put_word.auto.0)
+    c.put_triple.auto.xs ∙ simp length-set (c.put_word-2.auto.xs ∙ c.put_word.auto.xs)
 
 pub returns : goal.returns
 unfolding put header three

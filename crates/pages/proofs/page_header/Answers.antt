@@ -41,7 +41,7 @@ put_triple-requires c = record { i_in_bounds = simp length-set (omega (arith, lo
 
 pub shape_of-d : goal.shape_of-d
 shape_of-d c =
-    c.put_triple.auto.0 ∙ simp length-set (long c)
+    c.put_triple.auto.xs ∙ simp length-set (long c)
 
 pub returns : goal.returns
 unfolding put page_header three

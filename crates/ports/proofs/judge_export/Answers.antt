@@ -7,7 +7,8 @@ use Rattle.ports.proofs.judge_export.Goals as goal
 
 pub returns-in_default : goal.returns-in_default
 unfolding meaning exporting
-returns-in_default c = record { result_value = (λ rest s. elsewhere _ _ _ c.find.ensures _ c.requires.runs-are s c.in_default.is _); within = tt }
+returns-in_default c =
+    record { result_value = (λ rest s. elsewhere _ _ _ c.find.ensures _ c.requires.runs-are s c.in_default.is _); within = tt }
 
 pub returns-then-mask-ne0 : goal.returns-then-mask-ne0
 unfolding meaning exporting
@@ -21,7 +22,8 @@ volume-requires c =
 
 pub returns-then-volume-eq0 : goal.returns-then-volume-eq0
 unfolding meaning
-returns-then-volume-eq0 c = record { result_value = (λ rest s. export-empty _ _ _ c.find.ensures _ c.requires.runs-are s _ c.in-At.is _ c.mask-mask.ensures c.if-mask-ne0.false _ c.volume.ensures c.if-volume-eq0.true); within = tt }
+returns-then-volume-eq0 c =
+    record { result_value = (λ rest s. export-empty _ _ _ c.find.ensures _ c.requires.runs-are s _ c.in-At.is _ c.mask-mask.ensures c.if-mask-ne0.false _ c.volume.ensures c.if-volume-eq0.true); within = tt }
 
 pub returns : goal.returns
 unfolding meaning

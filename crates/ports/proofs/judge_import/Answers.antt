@@ -11,7 +11,8 @@ use Rattle.ports.proofs.judge_import.Goals as goal
 
 pub returns-in_default : goal.returns-in_default
 unfolding meaning importing
-returns-in_default c = record { result_value = (λ rest e s. elsewhere _ _ _ c.find.ensures _ c.requires.ported.runs-are s c.in_default.is _); within = tt }
+returns-in_default c =
+    record { result_value = (λ rest e s. elsewhere _ _ _ c.find.ensures _ c.requires.ported.runs-are s c.in_default.is _); within = tt }
 
 pub returns-then-mask-ne0 : goal.returns-then-mask-ne0
 unfolding meaning importing
@@ -25,11 +26,13 @@ volume-requires c =
 
 pub returns-then-volume-ne0 : goal.returns-then-volume-ne0
 unfolding meaning
-returns-then-volume-ne0 c = record { result_value = (λ rest e s. import-full _ _ _ c.find.ensures _ c.requires.ported.runs-are s _ c.in-At.is _ c.mask-mask.ensures c.if-mask-ne0.false _ c.volume.ensures _ c.if-volume-ne0.true); within = tt }
+returns-then-volume-ne0 c =
+    record { result_value = (λ rest e s. import-full _ _ _ c.find.ensures _ c.requires.ported.runs-are s _ c.in-At.is _ c.mask-mask.ensures c.if-mask-ne0.false _ c.volume.ensures _ c.if-volume-ne0.true); within = tt }
 
 pub returns-then-wrong_volume : goal.returns-then-wrong_volume
 unfolding meaning
-returns-then-wrong_volume c = record { result_value = (λ rest e s. import-wrong _ _ _ c.find.ensures _ c.requires.ported.runs-are s _ c.in-At.is _ c.mask-mask.ensures c.if-mask-ne0.false _ c.volume.ensures _ c.if-volume-ne0.false _ (c.wrong_volume.ensures _ rest e) c.if-wrong_volume.true); within = tt }
+returns-then-wrong_volume c =
+    record { result_value = (λ rest e s. import-wrong _ _ _ c.find.ensures _ c.requires.ported.runs-are s _ c.in-At.is _ c.mask-mask.ensures c.if-mask-ne0.false _ c.volume.ensures _ c.if-volume-ne0.false _ (c.wrong_volume.ensures _ rest e) c.if-wrong_volume.true); within = tt }
 
 pub overflow_cast-number : goal.overflow_cast-number
 overflow_cast-number c =

@@ -12,7 +12,7 @@ returns-then-not-checked c =
 pub turns-requires : goal.turns-requires
 turns-requires c =
     let whole = not-false _ c.if-not-checked.false in
-    (first-kept _ _ _ _ c.check-checked.ensures.sound_value whole _ (c.check-checked.ensures.runs whole), c.tabulate.ensures)
+    record { kept = first-kept _ _ _ _ c.check-checked.ensures.sound_value whole _ (c.check-checked.ensures.runs whole); tabled = c.tabulate.ensures }
 
 pub returns : goal.returns
 returns c =

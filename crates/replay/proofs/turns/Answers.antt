@@ -65,22 +65,22 @@ pub turn-requires : goal.turn-requires
 turn-requires c =
     let l = c.loop-lines in
     let k = c.requires.kept in
-    (record { rest = k.rest; given = k.given; sound-now = l.invariant.sound-still k.rest k.given k.sound-now; runs-are = l.invariant.runs-are }, (c.requires.tabled, (omega (arith, l.invariant.block_room), omega (arith, l.invariant.list-room))))
+    record { kept = record { rest = k.rest; given = k.given; sound-now = l.invariant.sound-still k.rest k.given k.sound-now; runs-are = l.invariant.runs-are }; tabled = c.requires.tabled; in_bounds = (omega (arith, l.invariant.block_room), omega (arith, l.invariant.list-room)) }
 
 pub shape_of-head-in-Stopped : goal.shape_of-head-in-Stopped
 shape_of-head-in-Stopped c =
     let l = c.loop-lines in
-    c.turn.auto.1.0 ∙ l.invariant.kept-head
+    c.turn.auto.elements ∙ l.invariant.kept-head
 
 pub shape_of-elements-in-Stopped : goal.shape_of-elements-in-Stopped
 shape_of-elements-in-Stopped c =
     let l = c.loop-lines in
-    c.turn.auto.1.1.0 ∙ l.invariant.kept-elements
+    c.turn.auto.search ∙ l.invariant.kept-elements
 
 pub shape_of-search-in-Stopped : goal.shape_of-search-in-Stopped
 shape_of-search-in-Stopped c =
     let l = c.loop-lines in
-    c.turn.auto.1.1.1.1.1.1.0 ∙ l.invariant.kept-search
+    c.turn.auto.list.1.1.0 ∙ l.invariant.kept-search
 
 pub returns-in-Stopped : goal.returns-in-Stopped
 returns-in-Stopped c =
@@ -109,13 +109,13 @@ loop-lines-preserved c =
     let log = c.args.log.now in
     let k = c.requires.kept in
     record {
-      kept-head = c.turn.auto.1.0 ∙ l.invariant.kept-head;
-      kept-elements = c.turn.auto.1.1.0 ∙ l.invariant.kept-elements;
-      kept-search = c.turn.auto.1.1.1.1.1.1.0 ∙ l.invariant.kept-search;
+      kept-head = c.turn.auto.elements ∙ l.invariant.kept-head;
+      kept-elements = c.turn.auto.search ∙ l.invariant.kept-elements;
+      kept-search = c.turn.auto.list.1.1.0 ∙ l.invariant.kept-search;
       runs-are = still-runs (lent _ _ _) (lent _ _ _) _ _ _ (c.turn.ensures.search_after k.rest k.given (l.invariant.sound-still k.rest k.given k.sound-now)) _ l.invariant.runs-are;
       sound-still = λ rest g s. still-sound _ _ _ _ _ (c.turn.ensures.search_after rest g (l.invariant.sound-still rest g s)) (l.invariant.sound-still rest g s);
-      block_room = c.turn.auto.1.1.1.1.1.1.1.1.1.1.0 ∙ l.invariant.block_room;
-      list-room = c.turn.auto.1.1.1.1.1.1.1.1.1.1.1.0 ∙ l.invariant.list-room;
+      block_room = c.turn.auto.list.1.1.1.1.1.1.0 ∙ l.invariant.block_room;
+      list-room = c.turn.auto.list.1.1.1.1.1.1.1.0 ∙ l.invariant.list-room;
       within-budget = omega (arith, c.loop-lines-test.true);
       inside = (went_on c).inside;
       stands = λ rest g s. onward (lent _ _ (searching rest _)) log _ _ (lent _ _ (searching rest _)) _ _ _ (l.invariant.stands rest g s) c.loop-lines-test.true l.invariant.inside c.if-place-log.false _ (tail log l.place) _ (lent _ _ (searching rest _)) (c.turn.ensures.search_after rest g (l.invariant.sound-still rest g s)) _ c.in-Applied.is c.turn.ensures.taken;

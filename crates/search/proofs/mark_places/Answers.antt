@@ -11,7 +11,8 @@ pub loop-p-init : goal.loop-p-init
 loop-p-init c = (search rules, turned_none _ _ _)
 
 pub volume_fits-requires : goal.volume_fits-requires
-volume_fits-requires c = record { search_len = (c.requires.search_len.0, rw c.volume.ensures (c.requires.search_len.1 c.loop-p.p (search rules))); cared = c.requires.cared }
+volume_fits-requires c =
+    record { search_len = (c.requires.search_len.0, rw c.volume.ensures (c.requires.search_len.1 c.loop-p.p (search rules))); cared = c.requires.cared }
 
 pub bounds-marks-p : goal.bounds-marks-p
 bounds-marks-p c = let l = c.loop-p.invariant in omega (arith, l.1.kept)

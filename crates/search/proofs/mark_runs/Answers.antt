@@ -9,7 +9,8 @@ pub loop-run-init : goal.loop-run-init
 loop-run-init c = marking_begins _ _ _ _ _ c.requires.searchable
 
 pub mark_run-requires : goal.mark_run-requires
-mark_run-requires c = record { run_searchable = marking-run _ _ _ _ _ c.requires.searchable (search rules) _ _ _ c.loop-run.invariant c.loop-run-test.true; cared = c.requires.cared }
+mark_run-requires c =
+    record { run_searchable = marking-run _ _ _ _ _ c.requires.searchable (search rules) _ _ _ c.loop-run.invariant c.loop-run-test.true; cared = c.requires.cared }
 
 pub overflow_add-place : goal.overflow_add-place
 overflow_add-place c =

@@ -18,10 +18,10 @@ pub returns-then-tells_attention : goal.returns-then-tells_attention
 unfolding sense_by byte
 returns-then-tells_attention c =
     let n = c.cut-count.ensures in
-    (rw (sym n) (search ladder depth 10), (rw n (least-most _ _), search rules))
+    record { value = rw (sym n) (search ladder depth 10); within = (rw n (least-most _ _), search rules) }
 
 pub returns : goal.returns
 unfolding sense_by byte
 returns c =
     let n = c.cut-count.ensures in
-    (rw (sym n) (search ladder depth 10), (rw n (least-most _ _), search rules))
+    record { value = rw (sym n) (search ladder depth 10); within = (rw n (least-most _ _), search rules) }

@@ -11,4 +11,5 @@ pub parts_sound-sound-requires : goal.parts_sound-sound-requires
 parts_sound-sound-requires c = (c.if-head-ne-HEAD_SIZE.false, (c.ranges-rs.ensures, runs_of _ _ _ c.ranges-rs.ensures c.sorted-runs.ensures))
 
 pub returns : goal.returns
-returns c = record { sound_value = c.parts_sound-sound.ensures; runs = λ e. runs_of _ _ _ c.ranges-rs.ensures c.sorted-runs.ensures }
+returns c =
+    record { sound_value = c.parts_sound-sound.ensures; runs = λ e. runs_of _ _ _ c.ranges-rs.ensures c.sorted-runs.ensures }

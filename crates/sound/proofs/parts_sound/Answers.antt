@@ -16,7 +16,8 @@ returns-then-not-rest_sound c =
     all-not-go _ _ _ _ c.sound.ensures c.if-not-sound.false (all-not-stop _ _ _ (c.rest_sound.ensures _) c.if-not-rest_sound.true)
 
 pub elements_sound-requires : goal.elements_sound-requires
-elements_sound-requires c = record { top_bound = rest-top _ _ _ (c.rest_sound.ensures []) c.if-not-rest_sound.false c.volumes.ensures; shelved = shelved _ _ _ (search rules) c.requires.rs_value c.requires.runs (came _ _ c.sound.ensures c.if-not-sound.false) }
+elements_sound-requires c =
+    record { top_bound = rest-top _ _ _ (c.rest_sound.ensures []) c.if-not-rest_sound.false c.volumes.ensures; shelved = shelved _ _ _ (search rules) c.requires.rs_value c.requires.runs (came _ _ c.sound.ensures c.if-not-sound.false) }
 
 pub returns-then-not-elements_sound : goal.returns-then-not-elements_sound
 returns-then-not-elements_sound c =

@@ -10,25 +10,26 @@ use Rattle.steps.proofs.steps.Goals as goal
 pub judge-requires : goal.judge-requires
 judge-requires c =
     let s = c.requires in
-    (s.suited.ready-to-move.head-length, (s.host-most, s.fitting))
+    record { head_size_in_bounds = s.suited.ready-to-move.head-length; host_le_hosts = s.host-most; fitting = s.fitting }
 
 pub report-requires : goal.report-requires
 report-requires c =
     let s = c.requires in
-    (s.suited.ready-to-move.head-length, (s.host-most, is-pending _ (lent _ _ bare) _ _ _ _ c.judge.ensures c.in-Pending.is))
+    record { head_size_in_bounds = s.suited.ready-to-move.head-length; host_le_hosts = s.host-most; fact = is-pending _ (lent _ _ bare) _ _ _ _ c.judge.ensures c.in-Pending.is }
 
 pub conflict-requires : goal.conflict-requires
 conflict-requires c =
     let s = c.requires in
-    (s.suited.ready-to-move.head-length, s.host-most)
+    record { head_size_in_bounds = s.suited.ready-to-move.head-length; host_le_hosts = s.host-most }
 
 pub refuse-requires : goal.refuse-requires
 refuse-requires c =
     let s = c.requires in
-    (s.suited.ready-to-move.head-length, s.host-most)
+    record { head_size_in_bounds = s.suited.ready-to-move.head-length; host_le_hosts = s.host-most }
 
 pub act-requires : goal.act-requires
-act-requires c = record { served = c.requires; parameters_value = is_open _ (lent _ _ bare) _ _ _ _ c.judge.ensures c.in-Open.is }
+act-requires c =
+    record { served = c.requires; parameters_value = is_open _ (lent _ _ bare) _ _ _ _ c.judge.ensures c.in-Open.is }
 
 pub returns-in-Pending : goal.returns-in-Pending
 returns-in-Pending c =

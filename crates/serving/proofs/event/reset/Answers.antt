@@ -20,7 +20,7 @@ returns-then-not-checked c =
 pub reset-requires : goal.reset-requires
 reset-requires c =
     let s = sym c.check-checked.ensures.sound_value ∙ not-false _ c.if-not-checked.false in
-    (head-room _ _ _ s, search-room _ _ _ s)
+    record { head_size_in_bounds = head-room _ _ _ s; search_len = search-room _ _ _ s }
 
 pub returns : goal.returns
 returns c =
