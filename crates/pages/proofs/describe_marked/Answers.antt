@@ -11,7 +11,6 @@ use Rattle.pages.specs.Pages.{stock, slot}
 use Rattle.pages.proofs.Marked.{one_in, none_in}
 use Rattle.pages.proofs.Lent.{put-part}
 use Rattle.pages.proofs.Descriptor.{descriptor-length, descriptors-one, descriptors-none}
-use borrow.Author.Rules.{rules}
 use Rattle.pages.proofs.describe_marked.Goals as goal
 
 room : (at w n width len : ℕ) → n ≡ 1 → w ≡ width → at + n * width ≤ len → at + w ≤ len

@@ -2,16 +2,15 @@
 -- front. Assumes nothing.
 use mathlib.Core.Path.{◌≡◌, sym, ap, ◌∙◌}
 use native.Mathlib.Omega.{arith}
-use Prim.Native.Nat.{ℕ, ◌+◌, ◌*◌, ◌-◌, ◌≤◌, ◌<◌}
+use Prim.Native.Nat.{ℕ, ◌+◌, ◌*◌, ◌≤◌, ◌<◌}
 use mathlib.Core.List.{List}
 use native.Mathlib.Nat.{zero-add, add-mul, mul-le-mul_right}
 use lib.ListN.{length}
-use Rattle.rules.specs.Bytes.{put}
 use Rattle.rules.specs.Roster.{slots}
 use Rattle.rules.specs.Listing.{joined, keep, width}
 use Rattle.rules.proofs.Writes.{put-length, put-nothing, put-append}
-use Rattle.pages.specs.Marks.{marked_of, marks_in}
-use Rattle.pages.specs.Pages.{stock, descriptors}
+use Rattle.pages.specs.Marks.{marks_in}
+use Rattle.pages.specs.Pages.{stock}
 use Rattle.pages.proofs.Marked.{marks-split, marks-few}
 use Rattle.pages.proofs.Descriptor.{run_length, descriptors-more}
 use Rattle.pages.proofs.describe_run.Goals as goal

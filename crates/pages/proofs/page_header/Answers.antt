@@ -8,7 +8,6 @@ use lib.ListN.{length, length-set}
 use Rattle.rules.specs.Bytes.{put, three}
 use Rattle.rules.specs.Listing.{page_header, width}
 use Rattle.pages.proofs.Descriptor.{times-width, width_few}
-use borrow.Author.Rules.{rules}
 use Rattle.pages.proofs.page_header.Goals as goal
 
 few : (tagged : Bool) (n w : ℕ) → w ≡ width tagged → n < 65536 → (w ≤ 52) × (n * w < 3407872)

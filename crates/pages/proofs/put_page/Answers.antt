@@ -6,7 +6,7 @@ use borrow.Author.Tests.{eq-eqb, ne_eqb}
 use Prim.Native.Nat.{ℕ, ◌+◌, ◌*◌, ◌-◌, ◌≤◌}
 use mathlib.Core.List.{List}
 use lib.ListN.{length, length-take, length-drop}
-use borrow.Rule.Slice.PartMut.{put_mid, same_len_mid}
+use borrow.Rule.Slice.PartMut.{same_len_mid}
 use Rattle.rules.specs.Choice.{when}
 use mathlib.Core.Bool.{Bool}
 use Rattle.rules.specs.Bytes.{three}
@@ -17,7 +17,6 @@ use Rattle.pages.proofs.Lent.{put_both}
 use Rattle.rules.proofs.Writes.{put-nothing}
 use Rattle.pages.proofs.Marked.{marks-length}
 use Rattle.pages.proofs.Descriptor.{run_length, page-bytes-is}
-use borrow.Author.Rules.{rules}
 use Rattle.pages.proofs.put_page.Goals as goal
 
 room : (tagged : Bool) (m w at len : ℕ) → w ≡ width tagged → (m ≡ 0 → ⊥) → at + page_bytes tagged m ≤ len → at + 8 + m * w ≤ len

@@ -1,10 +1,8 @@
 -- `pages::marks::count` meets its contract: at the loop's head, the marks found and those from here on are all. Assumes nothing.
-use mathlib.Core.Path.{◌≡◌, sym}
+use mathlib.Core.Path.{sym}
 use native.Mathlib.Omega.{arith}
-use Prim.Native.Nat.{◌+◌, ◌-◌, ◌≤◌, ◌<◌}
-use borrow.Author.Rules.{rules}
+use Prim.Native.Nat.{◌-◌}
 use Rattle.rules.specs.Bytes.{byte}
-use Rattle.pages.specs.Marks.{marks_in}
 use Rattle.pages.proofs.Marked.{marks-all, marks-end, marks-zero, count-marked, count-not}
 use Rattle.pages.proofs.marks.count.Goals as goal
 use Rattle.pages.proofs.marks.count.Goals.{then-marks-i-ne0, else-marks-i-ne0}
@@ -37,12 +35,12 @@ loop-i-preserved c =
     let marks = c.args.marks.now in
     let ne = c.if-marks-eq0.false in
     elim c.if-marks-i-ne0.branch [
-      then-marks-i-ne0 w ↦
-        let m = count-marked marks l.i c.least-end.result ne c.loop-i-test.true w.if-marks-i-ne0.true in
-        (omega arith, (omega arith, omega arith))
-    | else-marks-i-ne0 w ↦
-        let m = count-not marks l.i c.least-end.result ne c.loop-i-test.true w.if-marks-i-ne0.false in
-        (omega arith, (omega arith, omega arith))
+      | then-marks-i-ne0 w ↦
+          let m = count-marked marks l.i c.least-end.result ne c.loop-i-test.true w.if-marks-i-ne0.true in
+          (omega arith, (omega arith, omega arith))
+      | else-marks-i-ne0 w ↦
+          let m = count-not marks l.i c.least-end.result ne c.loop-i-test.true w.if-marks-i-ne0.false in
+          (omega arith, (omega arith, omega arith))
     ]
 
 pub overflow_cast-result : goal.overflow_cast-result
