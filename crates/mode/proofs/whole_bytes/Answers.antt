@@ -5,7 +5,6 @@ use Prim.Native.Nat.{ℕ, ◌+◌, ◌*◌, ◌<◌}
 use mathlib.Core.Path.{◌≡◌}
 use Rattle.mode.specs.Judged.{bytes_of}
 use Rattle.mode.proofs.Pages.{bytes_most, whole_length}
-use borrow.Author.Rules.{rules}
 use Rattle.mode.proofs.whole_bytes.Goals as goal
 
 few : (code n a g k : ℕ) → a ≡ bytes_of code 0x1D 18 → g ≡ bytes_of code 0x1E (2 * n) → k ≡ bytes_of code 0x1F 18 → n < 65536
