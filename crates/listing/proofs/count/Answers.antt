@@ -11,9 +11,6 @@ use Rattle.listing.proofs.count.Goals as goal
 pub loop-k-init : goal.loop-k-init
 loop-k-init c = counting-begins _ _ _ _ c.requires.start_bound.1 c.requires.within
 
-pub offset_bounds-rs-k : goal.offset_bounds-rs-k
-offset_bounds-rs-k c = omega arith
-
 pub bounds-rs-k : goal.bounds-rs-k
 bounds-rs-k c = c.loop-k-test.true
 
@@ -32,12 +29,6 @@ step-x-requires c =
         rw c.choose.ensures (part_small _ c.args.q _ _ (counting-here _ _ _ _ _ _ _ l.invariant (omega arith)) l.invariant.within.sum),
       );
     }
-
-pub overflow_add-k : goal.overflow_add-k
-overflow_add-k c = omega arith
-
-pub loop-k-smaller : goal.loop-k-smaller
-loop-k-smaller c = omega arith
 
 pub loop-k-preserved : goal.loop-k-preserved
 loop-k-preserved c =

@@ -16,9 +16,6 @@ pub loop-k-init : goal.loop-k-init
 loop-k-init c =
     writing_begins _ _ _ _ _ _ c.requires.rs_in_bounds c.requires.rs_in_bounds_2 c.requires.start_bound.1.0 c.requires.start_bound.1.1
 
-pub offset_bounds-rs-k : goal.offset_bounds-rs-k
-offset_bounds-rs-k c = omega arith
-
 pub bounds-rs-k : goal.bounds-rs-k
 bounds-rs-k c = c.loop-k-test.true
 
@@ -50,12 +47,6 @@ step-x-requires c =
         rw c.choose-p.ensures (part_small _ c.args.q _ _ (writing-inside _ _ _ ok _ _ _ _ _ _ _ l.invariant (omega arith)) l.invariant.within.sum),
       );
     }
-
-pub overflow_add-k : goal.overflow_add-k
-overflow_add-k c = omega arith
-
-pub loop-k-smaller : goal.loop-k-smaller
-loop-k-smaller c = omega arith
 
 pub loop-k-preserved : goal.loop-k-preserved
 loop-k-preserved c =
