@@ -121,6 +121,8 @@ request-kept t r m = subst (λ (u : Tables). u.rest ≡ t.rest) (leaves-next t (
 mixed-kept : (h g : ℕ) (xs ys zs : List Request) → From h xs → From g ys → Mixing xs ys zs → (t : Tables) → (run t (map Command zs)).rest ≡ t.rest
 unfolding run
 mixed-kept h g [] [] [] f k none t = refl
+mixed-kept h g [] (y ∷ ys) [] f k m t = elim m [ ]
+mixed-kept h g (x ∷ xs) ys [] f k m t = elim m [ ]
 mixed-kept h g (x ∷ xs) ys (x' ∷ zs) (more a b f) k (left m) t = mixed-kept h g xs ys zs f k m (next t (Command x)) ∙ request-kept t x b
 mixed-kept h g xs (y ∷ ys) (y' ∷ zs) f (more a b k) (right m) t = mixed-kept h g xs ys zs f k m (next t (Command y)) ∙ request-kept t y b
 

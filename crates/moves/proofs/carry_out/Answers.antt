@@ -8,7 +8,8 @@ use Rattle.moves.proofs.carry_out.Goals as goal
 pub carry-requires : goal.carry-requires
 carry-requires c =
     let able = c.requires.able in
-    (able.block-length, within-move _ _ _ _ _ c.in-Move.is able.within)
+    let places = within-move _ _ _ _ _ c.in-Move.is able.within in
+    record { block_len = able.block-length; place_bound = places.0; place_bound_2 = places.1 }
 
 pub recount-requires : goal.recount-requires
 recount-requires c =
@@ -26,7 +27,8 @@ returns-in-Move c =
 pub swap-requires : goal.swap-requires
 swap-requires c =
     let able = c.requires.able in
-    (able.block-length, within-exchange _ _ _ _ _ _ _ c.in-Exchange.is able.within)
+    let places = within-exchange _ _ _ _ _ _ _ c.in-Exchange.is able.within in
+    record { block_len = able.block-length; place_bound = places.0; place_bound_2 = places.1.0; place_bound_3 = places.1.1 }
 
 pub recount-requires-in-Exchange : goal.recount-requires-in-Exchange
 recount-requires-in-Exchange c =

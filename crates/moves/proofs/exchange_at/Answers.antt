@@ -37,24 +37,24 @@ returns-then-unfit c = record { value = search standing depth 12; within = tt }
 
 pub returns-then-unfit-2 : goal.returns-then-unfit-2
 unfolding exchange_at
-returns-then-unfit-2 c = (
-  no _ _ _ _ _ c.exchange_held.ensures c.if-exchange_held.false
+returns-then-unfit-2 c = record {
+  value = no _ _ _ _ _ c.exchange_held.ensures c.if-exchange_held.false
       (eq_no _ _ _ _ _ _ c.volume-brought.ensures c.if-brought-eq0.false
       (eq_no _ _ _ _ _ _ c.volume-displaced.ensures c.if-displaced-eq0.false
       (no _ _ _ _ _ c.hinders.ensures c.if-hinders.false
       (no _ _ _ _ _ (unfit-by _ _ _ _ _ _ _ _ _ c.unfit.ensures c.word_at-nearer.ensures c.volume-brought.ensures) c.if-unfit.false
-      (yes _ _ _ _ _ (unfit-by _ _ _ _ _ _ _ _ _ c.unfit-2.ensures c.word_at-farther.ensures c.volume-displaced.ensures) c.if-unfit-2.true refl))))),
-  tt,
-)
+      (yes _ _ _ _ _ (unfit-by _ _ _ _ _ _ _ _ _ c.unfit-2.ensures c.word_at-farther.ensures c.volume-displaced.ensures) c.if-unfit-2.true refl)))));
+  within = tt;
+}
 
 pub returns : goal.returns
 unfolding exchange_at
-returns c = (
-  no _ _ _ _ _ c.exchange_held.ensures c.if-exchange_held.false
+returns c = record {
+  value = no _ _ _ _ _ c.exchange_held.ensures c.if-exchange_held.false
       (eq_no _ _ _ _ _ _ c.volume-brought.ensures c.if-brought-eq0.false
       (eq_no _ _ _ _ _ _ c.volume-displaced.ensures c.if-displaced-eq0.false
       (no _ _ _ _ _ c.hinders.ensures c.if-hinders.false
       (no _ _ _ _ _ (unfit-by _ _ _ _ _ _ _ _ _ c.unfit.ensures c.word_at-nearer.ensures c.volume-brought.ensures) c.if-unfit.false
-      (no _ _ _ _ _ (unfit-by _ _ _ _ _ _ _ _ _ c.unfit-2.ensures c.word_at-farther.ensures c.volume-displaced.ensures) c.if-unfit-2.false (exchanges-by _ _ _ _ _ _ _ c.volume-brought.ensures c.volume-displaced.ensures)))))),
-  c.requires.1.1.1,
-)
+      (no _ _ _ _ _ (unfit-by _ _ _ _ _ _ _ _ _ c.unfit-2.ensures c.word_at-farther.ensures c.volume-displaced.ensures) c.if-unfit-2.false (exchanges-by _ _ _ _ _ _ _ c.volume-brought.ensures c.volume-displaced.ensures))))));
+  within = (c.requires.place_bound, (c.requires.place_bound_2, c.requires.place_bound_3));
+}

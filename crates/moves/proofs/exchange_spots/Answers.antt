@@ -23,13 +23,13 @@ unfolding exchange_spots
 returns-then-nearer-source c =
     let eight = c.word_at-farther.ensures in
     let six = c.word_at-nearer.ensures in
-    let four = c.word_at-source.ensures in (
-      place-yes _ _ _ _ _ _ c.spot_of-from.ensures four c.if-from-le-TRANSPORT.false
+    let four = c.word_at-source.ensures in record {
+      value = place-yes _ _ _ _ _ _ c.spot_of-from.ensures four c.if-from-le-TRANSPORT.false
           (place-yes _ _ _ _ _ _ c.spot_of-first.ensures six c.if-first-le-TRANSPORT.false
           (place-yes _ _ _ _ _ _ c.spot_of-second.ensures eight c.if-second-le-TRANSPORT.false
-          (eq_is _ _ _ _ _ (sym six ∙ c.if-nearer-source.true ∙ four) refl))),
-      tt,
-    )
+          (eq_is _ _ _ _ _ (sym six ∙ c.if-nearer-source.true ∙ four) refl)));
+      within = tt;
+    }
 
 pub exchange_at-requires : goal.exchange_at-requires
 exchange_at-requires c =
@@ -40,10 +40,10 @@ unfolding exchange_spots
 returns c =
     let eight = c.word_at-farther.ensures in
     let six = c.word_at-nearer.ensures in
-    let four = c.word_at-source.ensures in (
-      place-yes _ _ _ _ _ _ c.spot_of-from.ensures four c.if-from-le-TRANSPORT.false
+    let four = c.word_at-source.ensures in record {
+      value = place-yes _ _ _ _ _ _ c.spot_of-from.ensures four c.if-from-le-TRANSPORT.false
           (place-yes _ _ _ _ _ _ c.spot_of-first.ensures six c.if-first-le-TRANSPORT.false
           (place-yes _ _ _ _ _ _ c.spot_of-second.ensures eight c.if-second-le-TRANSPORT.false
-          (eq-not _ _ _ _ _ (λ e. c.if-nearer-source.false (six ∙ e ∙ sym four)) (same_by _ _ _ _ _ _ _ _ _ _ _ _ _ _ _ c.exchange_at.ensures.value eight four)))),
-      c.exchange_at.ensures.within,
-    )
+          (eq-not _ _ _ _ _ (λ e. c.if-nearer-source.false (six ∙ e ∙ sym four)) (same_by _ _ _ _ _ _ _ _ _ _ _ _ _ _ _ c.exchange_at.ensures.value eight four))));
+      within = c.exchange_at.ensures.within;
+    }

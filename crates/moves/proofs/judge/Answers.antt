@@ -16,19 +16,19 @@ exchange_spots-requires c = record { head_size_in_bounds = search rules; runs_le
 
 pub returns-then-exchange : goal.returns-then-exchange
 unfolding judged_by
-returns-then-exchange c = (
-  at-yes _ _ _ _ _ _ (arm-by _ _ _ _ _ _ c.arm_of.ensures c.word_at.ensures) c.in-At.is
-      (yes _ _ _ _ _ refl c.if-exchange.true c.exchange_spots.ensures.value),
-  c.exchange_spots.ensures.within,
-)
+returns-then-exchange c = record {
+  value = at-yes _ _ _ _ _ _ (arm-by _ _ _ _ _ _ c.arm_of.ensures c.word_at.ensures) c.in-At.is
+      (yes _ _ _ _ _ refl c.if-exchange.true c.exchange_spots.ensures.value);
+  within = c.exchange_spots.ensures.within;
+}
 
 pub move_spots-requires : goal.move_spots-requires
 move_spots-requires c = record { head_size_in_bounds = search rules; runs_len = search rules; block_len = search rules; arm_bound = search recorded depth 4 }
 
 pub returns : goal.returns
 unfolding judged_by
-returns c = (
-  at-yes _ _ _ _ _ _ (arm-by _ _ _ _ _ _ c.arm_of.ensures c.word_at.ensures) c.in-At.is
-      (no _ _ _ _ _ refl c.if-exchange.false c.move_spots.ensures.value),
-  c.move_spots.ensures.within,
-)
+returns c = record {
+  value = at-yes _ _ _ _ _ _ (arm-by _ _ _ _ _ _ c.arm_of.ensures c.word_at.ensures) c.in-At.is
+      (no _ _ _ _ _ refl c.if-exchange.false c.move_spots.ensures.value);
+  within = c.move_spots.ensures.within;
+}

@@ -1,7 +1,9 @@
 -- `moves::move_at` meets its contract. Assumes nothing.
 use Rattle.rules.specs.Tables.{places}
 use Rattle.moves.specs.Judged.{move_at}
-use Rattle.moves.proofs.Answers.{standing}
+use Rattle.rules.proofs.Ladder.{no, eq_no}
+use Rattle.rules.proofs.Rungs.{differ-no}
+use Rattle.moves.proofs.Answers.{standing, unfit-by, moves-by}
 use borrow.Author.Rules.{rules}
 use Rattle.moves.proofs.move_at.Goals as goal
 
@@ -39,4 +41,12 @@ returns-then-unfit c = record { value = search standing depth 12; within = tt }
 
 pub returns : goal.returns
 unfolding move_at
-returns c = record { value = search standing depth 12; within = search rules }
+returns c = record {
+  value = no _ _ _ _ _ c.place_held.ensures c.if-place_held.false
+      (no _ _ _ _ _ c.place_held-2.ensures c.if-place_held-2.false
+      (no _ _ _ _ _ c.place_held-3.ensures c.if-place_held-3.false
+      (eq_no _ _ _ _ _ _ c.volume-volume.ensures c.if-volume-eq0.false
+      (differ-no _ _ _ _ _ _ c.volume.ensures c.if-volume-ne0.false
+      (no _ _ _ _ _ (unfit-by _ _ _ _ _ _ _ _ _ c.unfit.ensures c.word_at-address.ensures c.volume-volume.ensures) c.if-unfit.false (moves-by _ _ _ _ c.volume-volume.ensures))))));
+  within = (c.requires.place_bound, c.requires.place_bound_2);
+}

@@ -12,19 +12,19 @@ returns-then-from-le-TRANSPORT c =
 
 pub returns-then-to-le-TRANSPORT : goal.returns-then-to-le-TRANSPORT
 unfolding move_spots
-returns-then-to-le-TRANSPORT c = (
-  place-yes _ _ _ _ _ _ c.spot_of-from.ensures c.word_at.ensures c.if-from-le-TRANSPORT.false
-      (place-no _ _ _ _ _ _ c.spot_of-to.ensures c.word_at-2.ensures c.if-to-le-TRANSPORT.true refl),
-  tt,
-)
+returns-then-to-le-TRANSPORT c = record {
+  value = place-yes _ _ _ _ _ _ c.spot_of-from.ensures c.word_at.ensures c.if-from-le-TRANSPORT.false
+      (place-no _ _ _ _ _ _ c.spot_of-to.ensures c.word_at-2.ensures c.if-to-le-TRANSPORT.true refl);
+  within = tt;
+}
 
 pub move_at-requires : goal.move_at-requires
 move_at-requires c = record { head_size_in_bounds = search rules; block_len = search rules; arm_bound = search rules; place_bound = search recorded depth 4; place_bound_2 = search recorded depth 4 }
 
 pub returns : goal.returns
 unfolding move_spots
-returns c = (
-  place-yes _ _ _ _ _ _ c.spot_of-from.ensures c.word_at.ensures c.if-from-le-TRANSPORT.false
-      (place-yes _ _ _ _ _ _ c.spot_of-to.ensures c.word_at-2.ensures c.if-to-le-TRANSPORT.false c.move_at.ensures.value),
-  c.move_at.ensures.within,
-)
+returns c = record {
+  value = place-yes _ _ _ _ _ _ c.spot_of-from.ensures c.word_at.ensures c.if-from-le-TRANSPORT.false
+      (place-yes _ _ _ _ _ _ c.spot_of-to.ensures c.word_at-2.ensures c.if-to-le-TRANSPORT.false c.move_at.ensures.value);
+  within = c.move_at.ensures.within;
+}

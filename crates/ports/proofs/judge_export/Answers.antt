@@ -14,7 +14,7 @@ pub returns-then-mask-ne0 : goal.returns-then-mask-ne0
 unfolding meaning exporting
 returns-then-mask-ne0 c =
     rw c.prevented.ensures
-    ((λ rest s. locked _ _ _ c.find.ensures _ c.requires.runs-are s _ c.in-At.is _ c.mask-mask.ensures c.if-mask-ne0.true _), tt)
+    (record { result_value = (λ rest s. locked _ _ _ c.find.ensures _ c.requires.runs-are s _ c.in-At.is _ c.mask-mask.ensures c.if-mask-ne0.true _); within = tt })
 
 pub volume-requires : goal.volume-requires
 volume-requires c =
@@ -27,7 +27,7 @@ returns-then-volume-eq0 c =
 
 pub returns : goal.returns
 unfolding meaning
-returns c = (
-  (λ rest s. export-full _ _ _ c.find.ensures _ c.requires.runs-are s _ c.in-At.is _ c.mask-mask.ensures c.if-mask-ne0.false _ c.volume.ensures c.if-volume-eq0.false),
-  port-within _ _ _ c.find.ensures _ _ c.requires _ c.in-At.is,
-)
+returns c = record {
+  result_value = (λ rest s. export-full _ _ _ c.find.ensures _ c.requires.runs-are s _ c.in-At.is _ c.mask-mask.ensures c.if-mask-ne0.false _ c.volume.ensures c.if-volume-eq0.false);
+  within = port-within _ _ _ c.find.ensures _ _ c.requires _ c.in-At.is;
+}

@@ -18,7 +18,7 @@ pub returns-then-mask-ne0 : goal.returns-then-mask-ne0
 unfolding meaning importing
 returns-then-mask-ne0 c =
     rw c.prevented.ensures
-    ((λ rest e s. locked _ _ _ c.find.ensures _ c.requires.ported.runs-are s _ c.in-At.is _ c.mask-mask.ensures c.if-mask-ne0.true _), tt)
+    (record { result_value = (λ rest e s. locked _ _ _ c.find.ensures _ c.requires.ported.runs-are s _ c.in-At.is _ c.mask-mask.ensures c.if-mask-ne0.true _); within = tt })
 
 pub volume-requires : goal.volume-requires
 volume-requires c =
@@ -40,7 +40,7 @@ overflow_cast-number c =
 
 pub returns : goal.returns
 unfolding meaning
-returns c = (
-  (λ rest e s. import-right _ _ _ c.find.ensures _ c.requires.ported.runs-are s _ c.in-At.is _ c.mask-mask.ensures c.if-mask-ne0.false _ c.volume.ensures _ c.if-volume-ne0.false _ (c.wrong_volume.ensures _ rest e) c.if-wrong_volume.false),
-  port-within _ _ _ c.find.ensures _ _ c.requires.ported _ c.in-At.is,
-)
+returns c = record {
+  result_value = (λ rest e s. import-right _ _ _ c.find.ensures _ c.requires.ported.runs-are s _ c.in-At.is _ c.mask-mask.ensures c.if-mask-ne0.false _ c.volume.ensures _ c.if-volume-ne0.false _ (c.wrong_volume.ensures _ rest e) c.if-wrong_volume.false);
+  within = port-within _ _ _ c.find.ensures _ _ c.requires.ported _ c.in-At.is;
+}
