@@ -6,7 +6,6 @@ use lib.ListN.{length-replicate}
 use Rattle.rules.specs.Bytes.{byte}
 use Rattle.rules.specs.Tables.{lent, searching, action, next_address}
 use Rattle.finding.proofs.Ends.{fresh, goes_on}
-use borrow.Author.Rules.{rules}
 use Rattle.finding.proofs.go_on.Goals as goal
 
 pub mark_found-requires : goal.mark_found-requires

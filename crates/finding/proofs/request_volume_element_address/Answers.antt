@@ -3,13 +3,9 @@ use Prim.Native.Nat.{ℕ}
 use native.Mathlib.Omega.{arith}
 use mathlib.Core.Path.{refl}
 use lib.ListN.{length-replicate}
-use Rattle.rules.specs.Bytes.{byte, word}
+use Rattle.rules.specs.Bytes.{byte}
 use Rattle.rules.specs.Tables.{lent, searching, action, next_address}
-use Rattle.tables.specs.Ranges.{meant}
-use Rattle.pages.specs.Pages.{stock}
-use Rattle.listing.specs.Counting.{Answers, asked, listed}
 use Rattle.finding.proofs.Ends.{fresh, ends-good, ends-refused}
-use borrow.Author.Rules.{rules}
 use Rattle.finding.proofs.request_volume_element_address.Goals as goal
 
 pub mark_found-requires : goal.mark_found-requires
