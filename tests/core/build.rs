@@ -10,8 +10,8 @@ use std::time::SystemTime;
 /// Another library than the usual one.
 const ELSEWHERE: &str = "CHANGER_STATICLIB";
 const USUAL: &str = "target/staticlib/libchanger.a";
-/// The crates whose entries it holds.
-const PARTS: [&str; 3] = ["entry_primary", "entry_changer", "entry_panel"];
+/// The crate whose exports it holds.
+const EXPORTS: &str = "changer";
 const BUILD_IT: &str = "run `bin/library` in the repository";
 
 const ENTRIES: [&str; 16] = [
@@ -113,16 +113,17 @@ fn changed(file: &Path) -> Option<SystemTime> {
     fs::metadata(file).and_then(|about| about.modified()).ok()
 }
 
-/// The crates of the entries and all that they stand on. A line of the listing is "NAME: what it stands on".
+/// The crate of the exports and all that it stands on. A line of the listing is "NAME: what it stands on", or "NAME staticlib: ..".
 fn crates_behind(listing: &Path) -> BTreeSet<String> {
     println!("cargo:rerun-if-changed={}", listing.display());
     let text = fs::read_to_string(listing).unwrap_or_default();
     let mut found = BTreeSet::new();
-    let mut open = PARTS.map(String::from).to_vec();
+    let mut open = vec![String::from(EXPORTS)];
     while let Some(name) = open.pop() {
         if found.insert(name.clone()) {
             let mut lines = text.lines().filter_map(|line| line.split_once(':'));
-            let below = lines.find(|(of, _)| *of == name).map_or("", |line| line.1);
+            let named = |of: &str| of.split_whitespace().next() == Some(name.as_str());
+            let below = lines.find(|(of, _)| named(of)).map_or("", |line| line.1);
             open.extend(below.split_whitespace().map(String::from));
         }
     }

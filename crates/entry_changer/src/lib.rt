@@ -1,7 +1,7 @@
-// The entries that a C front end calls for any block, and for the commands that only a medium changer has. Each is one call of `serving`. An entry asks nothing of the values
-// that it is lent: any bytes, any lengths, any numbers. Its statement stands in crates/entries. What a caller owes beside (valid slices that do not overlap, one call at a
-// time) stands in include/smc.h. The other entries stand in crates/entry_primary and crates/entry_panel: a static library has the entries of one crate, and bin/library joins
-// three.
+// The entries for any block, and for the commands that only a medium changer has. Each is one call of `serving`. An entry asks nothing of the values that it is lent: any
+// bytes, any lengths, any numbers. Its statement stands in crates/entries. What a caller owes beside (valid slices that do not overlap, one call at a time) stands in
+// include/smc.h. The other entries stand in crates/entry_primary and crates/entry_panel. A C front end calls all of them by their names, through the exports of
+// crates/changer, of which the static library is made; the case program calls these.
 #![tactic(auto)]
 
 ghost use Rattle.rules.specs.Tables.{lent, others};

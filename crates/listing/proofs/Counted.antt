@@ -23,7 +23,7 @@ use Rattle.pages.proofs.Keeping.{take-append}
 use Rattle.pages.proofs.Descriptor.{joined-append, page-bytes-few, shown-length, Wide, wide-slots, wide-keep, wide-take}
 use Rattle.listing.specs.declared.Query.{Query}
 use Rattle.listing.specs.declared.Tally.{Tally}
-use Rattle.listing.specs.Plan.{suits, offered, room_behind, planned}
+use Rattle.listing.specs.Plan.{suits, offered, picked_of, room_behind, planned}
 use Rattle.listing.specs.Counting.{Inside, picked_at, chosen_at, fitting_at, step_of, step_bytes, counted, added, outset, Within}
 use Rattle.listing.proofs.Choosing.{picked}
 use Rattle.listing.proofs.Fitting.{fit-page, nothing-fits, whole-page, no-wholes, fit_is, page-length}
@@ -124,12 +124,12 @@ module _ (marks : List ℕ) (q : Query) (t : Tables) (ok : Labelled t) where
   no_room : (left p : ℕ) (rs : List Range) → fitting 0 (planned marks q.tagged t q.code q.start left p rs) ≡ []
   unfolding planned fitting
   no_room left p [] = refl
-  no_room left p (r ∷ rs) = nothing-fits q.tagged t r.kind _ _ (no_room _ (p + r.count) rs)
+  no_room left p (r ∷ rs) = nothing-fits q.tagged t r.kind _ _ (no_room (left - length (picked_of marks q.code q.start left p r)) (p + r.count) rs)
 
   no_whole : (left p : ℕ) (rs : List Range) → wholes 0 (planned marks q.tagged t q.code q.start left p rs) ≡ 0
   unfolding planned wholes
   no_whole left p [] = refl
-  no_whole left p (r ∷ rs) = no-wholes q.tagged t r.kind _ _ (no_whole _ (p + r.count) rs)
+  no_whole left p (r ∷ rs) = no-wholes q.tagged t r.kind _ _ (no_whole (left - length (picked_of marks q.code q.start left p r)) (p + r.count) rs)
 
   -- the bytes that a range adds, and those behind it
   fit-step : (s : Tally) (r : Range) (rs : List Range) → element_at (s.place + r.count) ≤ length t.elements

@@ -3,9 +3,9 @@ use Prim.Native.Nat.{ℕ, ◌+◌, ◌≤◌}
 use native.Mathlib.Nat.{zero-add}
 use native.Mathlib.Omega.{arith}
 use mathlib.Core.Path.{◌≡◌, sym, ◌∙◌}
-use mathlib.Core.List.{List, [], ◌∷◌, ◌++◌, append_assoc, append-nil}
+use mathlib.Core.List.{List, ◌++◌, append_assoc, append-nil}
 use lib.ListN.{length, take, drop, length-take, length-drop, take-append-drop, drop_of_length-le}
-use lib.Seq.{sets, sets-eq, drop-drop, drop-append-le}
+use lib.Seq.{sets-eq, drop-drop, drop-append-le}
 use borrow.Rule.Slice.PartMut.{put_mid}
 use Rattle.rules.specs.Bytes.{put}
 use Rattle.rules.proofs.Writes.{put-length, put-append}

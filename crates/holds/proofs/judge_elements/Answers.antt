@@ -19,11 +19,11 @@ judge-requires c =
     record { few = c.requires.laid_out.few; there = omega (arith, c.loop-k-test.true, c.count-n.ensures); so_far = c.loop-k.invariant.marked }
 
 pub returns-in-Wrong : goal.returns-in-Wrong
-returns-in-Wrong c = (
-  length-right _ _ _ _ _ _ c.wrong_length.ensures c.if-wrong_length.false _ c.count-n.ensures _
-      (turn-wrong _ _ _ _ _ _ _ _ _ _ c.loop-k.invariant c.loop-k-test.true _ c.judge.ensures.value _ c.in-Wrong.is),
-  tt,
-)
+returns-in-Wrong c = record {
+  value = length-right _ _ _ _ _ _ c.wrong_length.ensures c.if-wrong_length.false _ c.count-n.ensures _
+      (turn-wrong _ _ _ _ _ _ _ _ _ _ c.loop-k.invariant c.loop-k-test.true _ c.judge.ensures.value _ c.in-Wrong.is);
+  grantable = tt;
+}
 
 pub bounds-firsts-k : goal.bounds-firsts-k
 bounds-firsts-k c =
@@ -43,15 +43,15 @@ conflicts-requires c =
     turn-bounded _ _ _ _ _ _ _ _ _ _ c.loop-k.invariant c.loop-k-test.false c.count-n.ensures c.requires.laid_out.elements-long
 
 pub returns-then-conflicts : goal.returns-then-conflicts
-returns-then-conflicts c = (
-  length-right _ _ _ _ _ _ c.wrong_length.ensures c.if-wrong_length.false _ c.count-n.ensures _
-      (turn-taken _ _ _ _ _ _ _ _ _ _ c.loop-k.invariant c.loop-k-test.false c.count-n.ensures _ c.conflicts.ensures c.if-conflicts.true),
-  tt,
-)
+returns-then-conflicts c = record {
+  value = length-right _ _ _ _ _ _ c.wrong_length.ensures c.if-wrong_length.false _ c.count-n.ensures _
+      (turn-taken _ _ _ _ _ _ _ _ _ _ c.loop-k.invariant c.loop-k-test.false c.count-n.ensures _ c.conflicts.ensures c.if-conflicts.true);
+  grantable = tt;
+}
 
 pub returns : goal.returns
-returns c = (
-  length-right _ _ _ _ _ _ c.wrong_length.ensures c.if-wrong_length.false _ c.count-n.ensures _
-      (turn-free _ _ _ _ _ _ _ _ _ _ c.loop-k.invariant c.loop-k-test.false c.count-n.ensures _ c.conflicts.ensures c.if-conflicts.false),
-  turn-marks _ _ _ _ _ _ _ _ _ _ c.loop-k.invariant c.loop-k-test.false c.count-n.ensures,
-)
+returns c = record {
+  value = length-right _ _ _ _ _ _ c.wrong_length.ensures c.if-wrong_length.false _ c.count-n.ensures _
+      (turn-free _ _ _ _ _ _ _ _ _ _ c.loop-k.invariant c.loop-k-test.false c.count-n.ensures _ c.conflicts.ensures c.if-conflicts.false);
+  grantable = turn-marks _ _ _ _ _ _ _ _ _ _ c.loop-k.invariant c.loop-k-test.false c.count-n.ensures;
+}

@@ -10,7 +10,7 @@ use Rattle.holds.proofs.reserve_elements.Goals as goal
 
 pub judge_elements-ruling-requires : goal.judge_elements-ruling-requires
 judge_elements-ruling-requires c =
-    (c.requires.laid_out, marks_begin _ _)
+    record { laid_out = c.requires.laid_out; marks = marks_begin _ _ }
 
 pub carry_out-requires : goal.carry_out-requires
 unfolding places
@@ -26,4 +26,4 @@ carry_out-requires c =
 pub returns : goal.returns
 returns c rest buffer =
     let judged = c.judge_elements-ruling.ensures in
-    ends_as _ buffer (c.carry_out.ensures _ _ rest buffer judged.1) (ap (meaning _ _ _ _) judged.0)
+    ends_as _ buffer (c.carry_out.ensures _ _ rest buffer judged.grantable) (ap (meaning _ _ _ _) judged.value)

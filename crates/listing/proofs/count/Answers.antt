@@ -9,9 +9,6 @@ use Rattle.listing.proofs.Counted.{within-later}
 use Rattle.listing.proofs.Stages.{Counting, counting-begins, counting-here, counting-on, counting-ends}
 use Rattle.listing.proofs.count.Goals as goal
 
-four : (c : tie.Start invariant-loop decreases-loop) → length c.args.t4 ≡ 4
-four c = search rules
-
 pub loop-k-init : goal.loop-k-init
 loop-k-init c = counting-begins _ _ _ _ c.requires.start_bound.1 c.requires.within
 
@@ -29,13 +26,13 @@ choose-requires c =
 pub step-x-requires : goal.step-x-requires
 step-x-requires c =
     let l = c.loop-k in
-    let n = four c in (
-      (c.requires.start_bound.0, counting-here _ _ _ _ _ _ _ l.invariant (omega arith)),
-      (
+    let n : length c.args.rs ≡ 4 = search rules in record {
+      start_bound = (c.requires.start_bound.0, counting-here _ _ _ _ _ _ _ l.invariant (omega arith));
+      within = (
         within-later _ _ _ (omega arith) l.invariant.within,
         rw c.choose.ensures (part_small _ c.args.q _ _ (counting-here _ _ _ _ _ _ _ l.invariant (omega arith)) l.invariant.within.sum),
-      ),
-    )
+      );
+    }
 
 pub overflow_add-k : goal.overflow_add-k
 overflow_add-k c = omega arith
@@ -46,10 +43,10 @@ loop-k-smaller c = omega arith
 pub loop-k-preserved : goal.loop-k-preserved
 loop-k-preserved c =
     let l = c.loop-k in
-    let n = four c in
+    let n : length c.args.rs ≡ 4 = search rules in
     counting-on _ _ _ _ _ _ _ l.invariant (omega arith) c.requires.start_bound.0 _ ((rw c.choose.ensures at c.step-x.ensures) ∙ step_is _ _ _ _)
 
 pub returns : goal.returns
 returns c =
-    let n = four c in
+    let n : length c.args.rs ≡ 4 = search rules in
     counting-ends _ _ _ _ _ _ c.loop-k.invariant (omega arith)

@@ -31,7 +31,13 @@ put_page-requires c =
     let k = counts-few marks a.q a.s r c.requires.start_bound.1.1.sum in
     let t = told-inside marks a.q a.s r i z in
     rw (c.less-skip.ensures, c.requires.p_value)
-    (c.requires.r_in_bounds, ((t.0, k.1), (t.1.0, (omega (arith, t.1.1, c.requires.count_in_bounds), c.requires.labelled))))
+    (record {
+      m_in_bounds = c.requires.r_in_bounds;
+      m_value = (t.0, k.1);
+      run_bound = t.1.0;
+      run_in_bounds = omega (arith, t.1.1, c.requires.count_in_bounds);
+      labelled = c.requires.labelled;
+    })
 
 pub returns : goal.returns
 unfolding step_bytes

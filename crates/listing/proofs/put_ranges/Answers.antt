@@ -10,9 +10,6 @@ use Rattle.listing.proofs.Counted.{within-later, write-nothing}
 use Rattle.listing.proofs.Stages.{Writing, writing_begins, writing-inside, writing-room, writing-stands, writing-on, writing-ends}
 use Rattle.listing.proofs.put_ranges.Goals as goal
 
-four : (c : tie.Start invariant-loop decreases-loop) → length c.args.t8 ≡ 4
-four c = search rules
-
 pub returns-then-s-eq0 : goal.returns-then-s-eq0
 returns-then-s-eq0 c =
     write-nothing _ _ _ c.requires.labelled _ _ _ c.if-s-eq0.true
@@ -35,26 +32,26 @@ choose-p-requires c =
 pub put_range-requires : goal.put_range-requires
 put_range-requires c =
     let l = c.loop-k in
-    let n = four c in
-    let ok = c.requires.labelled in (
-      writing-room _ _ _ ok _ _ _ _ _ _ _ l.invariant (omega arith),
-      (
-        (c.requires.start_bound.0, (writing-inside _ _ _ ok _ _ _ _ _ _ _ l.invariant (omega arith), within-later _ _ _ (omega arith) l.invariant.within)),
-        (c.choose-p.ensures, (writing-stands _ _ _ ok _ _ _ _ _ _ _ l.invariant (omega arith), ok)),
-      ),
-    )
+    let n : length c.args.rs ≡ 4 = search rules in
+    let ok = c.requires.labelled in record {
+      r_in_bounds = writing-room _ _ _ ok _ _ _ _ _ _ _ l.invariant (omega arith);
+      start_bound = (c.requires.start_bound.0, (writing-inside _ _ _ ok _ _ _ _ _ _ _ l.invariant (omega arith), within-later _ _ _ (omega arith) l.invariant.within));
+      p_value = c.choose-p.ensures;
+      count_in_bounds = writing-stands _ _ _ ok _ _ _ _ _ _ _ l.invariant (omega arith);
+      labelled = ok;
+    }
 
 pub step-x-requires : goal.step-x-requires
 step-x-requires c =
     let l = c.loop-k in
-    let n = four c in
-    let ok = c.requires.labelled in (
-      (c.requires.start_bound.0, writing-inside _ _ _ ok _ _ _ _ _ _ _ l.invariant (omega arith)),
-      (
+    let n : length c.args.rs ≡ 4 = search rules in
+    let ok = c.requires.labelled in record {
+      start_bound = (c.requires.start_bound.0, writing-inside _ _ _ ok _ _ _ _ _ _ _ l.invariant (omega arith));
+      within = (
         within-later _ _ _ (omega arith) l.invariant.within,
         rw c.choose-p.ensures (part_small _ c.args.q _ _ (writing-inside _ _ _ ok _ _ _ _ _ _ _ l.invariant (omega arith)) l.invariant.within.sum),
-      ),
-    )
+      );
+    }
 
 pub overflow_add-k : goal.overflow_add-k
 overflow_add-k c = omega arith
@@ -65,7 +62,7 @@ loop-k-smaller c = omega arith
 pub loop-k-preserved : goal.loop-k-preserved
 loop-k-preserved c =
     let l = c.loop-k in
-    let n = four c in
+    let n : length c.args.rs ≡ 4 = search rules in
     writing-on _ _ _ c.requires.labelled _ _ _ _ _ _ _ l.invariant (omega arith) c.requires.start_bound.0 _ c.put_range.ensures _
     ((rw c.choose-p.ensures at c.step-x.ensures) ∙ step_is _ _ _ _)
 
@@ -74,5 +71,5 @@ shape_of-answer c = c.loop-k.invariant.long
 
 pub returns : goal.returns
 returns c =
-    let n = four c in
+    let n : length c.args.rs ≡ 4 = search rules in
     writing-ends _ _ _ c.requires.labelled _ _ _ _ _ _ c.loop-k.invariant (omega arith)

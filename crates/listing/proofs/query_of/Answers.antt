@@ -7,4 +7,4 @@ use Rattle.listing.proofs.query_of.Goals as goal
 
 pub returns : goal.returns
 unfolding with_tags type_code byte
-returns c = record { value = rw c.word_at.ensures; start_bound = omega (arith, c.word_at.type-inv) }
+returns c = record { value = rw c.word_at.ensures; start_bound = omega arith }

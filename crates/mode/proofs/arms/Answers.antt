@@ -9,9 +9,6 @@ use Rattle.rules.proofs.Writes.{put-length, put-nothing, put_then}
 use Rattle.mode.proofs.Pages.{members-length, members-more}
 use Rattle.mode.proofs.arms.Goals as goal
 
-same-length-at : (c : tie.At-loop invariant-loop decreases-loop) → length c.loop.d ≡ length c.before.before.args.d.now
-same-length-at c = ap length c.loop.invariant.0 ∙ put-length _ _ _
-
 pub loop-i-init : goal.loop-i-init
 unfolding members
 loop-i-init c = (sym (put-nothing _ _), omega arith)
@@ -26,7 +23,7 @@ pub overflow_cast-i : goal.overflow_cast-i
 overflow_cast-i c = omega (arith, c.requires.1)
 
 pub put_two-requires : goal.put_two-requires
-put_two-requires c = omega (arith, c.requires.0, same-length-at c)
+put_two-requires c = let e = ap length c.loop-i.invariant.0 ∙ put-length _ _ _ in omega arith
 
 pub overflow_add-i : goal.overflow_add-i
 overflow_add-i c = omega (arith, c.requires.1)
@@ -42,7 +39,7 @@ loop-i-preserved c =
     )
 
 pub shape_of-d : goal.shape_of-d
-shape_of-d c = same-length-at c
+shape_of-d c = ap length c.loop-i.invariant.0 ∙ put-length _ _ _
 
 pub returns : goal.returns
 returns c =

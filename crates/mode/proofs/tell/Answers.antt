@@ -1,5 +1,4 @@
 -- `mode::tell` meets its contract. Assumes nothing.
--- the part of the array that is lent is so long, and has the first bytes of the answer
 use mathlib.Core.Path.{◌≡◌, sym, ap, ◌∙◌}
 use native.Mathlib.Omega.{arith}
 use lib.ListN.{length, take}
@@ -13,26 +12,18 @@ use Rattle.mode.specs.Judged.{meaning}
 use borrow.Author.Rules.{rules}
 use Rattle.mode.proofs.tell.Goals as goal
 
-part : (c : tie.After-whole) → length (take c.before.before.before.before.before.args.count c.whole.new.0) ≡ c.before.before.before.before.before.args.count
-part c =
-    let start = c.before.before.before.before.before in
-    length-take-le start.args.count c.whole.new.0 (omega (arith, start.requires.1, c.whole.auto.0))
-
-first : (c : tie.After-whole)
-    → (let a = c.before.before.before.before.before.args in take a.count c.whole.new.0 ≡ cut a.count (mode_whole a.head.now a.code))
-unfolding cut
-first c =
-    let start = c.before.before.before.before.before in
-    ap (take start.args.count) c.whole.ensures ∙ cut-put start.args.count _ (mode_whole start.args.head.now start.args.code) (omega (arith, start.requires.1.0)) start.requires.1.1.0
-
 pub slice_bounds-copy-end : goal.slice_bounds-copy-end
-slice_bounds-copy-end c = sym (part c)
+slice_bounds-copy-end c = sym (length-take-le c.args.count c.whole.new.d (omega arith))
 
 pub copy-requires : goal.copy-requires
-copy-requires c = rw (part c) c.requires.count_in_bounds.1
+copy-requires c =
+    let part : length (take c.args.count c.whole.new.d) ≡ c.args.count = length-take-le c.args.count c.whole.new.d (omega arith) in
+    rw part c.requires.count_in_bounds.1
 
 pub returns : goal.returns
-unfolding meaning in_head
+unfolding meaning in_head cut
 returns c = λ elements rest.
+    let first : take c.args.count c.whole.new.d ≡ cut c.args.count (mode_whole c.args.head.now c.args.code) =
+    ap (take c.args.count) c.whole.ensures ∙ cut-put c.args.count _ (mode_whole c.args.head.now c.args.code) (omega arith) c.requires.count_in_bounds.0 in
     cut-ends _ _ _ _ _ _ (mode_whole c.args.head.now c.args.code) (NewSense _ 0 0 0) c.requires.count_in_bounds.0 c.told.ensures
-    (rw (← first c) c.copy.ensures) c.wipe.ensures
+    (rw (← first) c.copy.ensures) c.wipe.ensures

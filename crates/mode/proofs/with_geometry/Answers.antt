@@ -1,5 +1,4 @@
 -- `mode::with_geometry` meets its contract. Assumes nothing.
--- the page is asked for, so all its bytes have room
 use native.Mathlib.Omega.{arith}
 use mathlib.Core.Path.{◌≡◌, sym, ◌∙◌}
 use mathlib.Core.Bool.{true}
@@ -11,28 +10,22 @@ use Rattle.mode.proofs.Pages.{bytes-sought, bytes-passed, piece-sought, piece-pa
 use borrow.Author.Rules.{rules}
 use Rattle.mode.proofs.with_geometry.Goals as goal
 
-asked : (c : tie.Then1) → sought c.before.before.before.args.code 0x1E ≡ true
-asked c = sym c.before.sought.ensures ∙ c.if1.true
-
-all : (c : tie.Then1) → (let a = c.before.before.before.args in bytes_of a.code 0x1E (2 * a.n) ≡ 2 + 2 * a.n)
-all c = bytes-sought _ _ _ (asked c)
-
 pub geometry-requires : goal.geometry-requires
 geometry-requires c =
-    (omega (arith, all c, c.requires.0), omega (arith, all c, c.requires.1))
+    (omega (arith, bytes-sought _ _ (2 * c.args.n) (sym c.sought.ensures ∙ c.if-sought.true), c.requires.0), omega (arith, bytes-sought _ _ (2 * c.args.n) (sym c.sought.ensures ∙ c.if-sought.true), c.requires.1))
 
 pub overflow_mul-result : goal.overflow_mul-result
-overflow_mul-result c = omega (arith, all c, c.requires.1)
+overflow_mul-result c = omega (arith, bytes-sought _ _ (2 * c.args.n) (sym c.sought.ensures ∙ c.if-sought.true), c.requires.1)
 
 pub overflow_add-result : goal.overflow_add-result
-overflow_add-result c = omega (arith, all c, c.requires.1)
+overflow_add-result c = omega (arith, bytes-sought _ _ (2 * c.args.n) (sym c.sought.ensures ∙ c.if-sought.true), c.requires.1)
 
 pub overflow_add-result-then-sought : goal.overflow_add-result-then-sought
-overflow_add-result-then-sought c = omega (arith, all c, c.requires.0, c.well_formed)
+overflow_add-result-then-sought c = omega (arith, bytes-sought _ _ (2 * c.args.n) (sym c.sought.ensures ∙ c.if-sought.true), c.requires.0, c.well_formed)
 
 pub returns-then-sought : goal.returns-then-sought
 returns-then-sought c =
-    record { d_after = rw (piece-sought _ _ _ (asked c)) c.geometry.ensures; value = omega (arith, all c) }
+    record { d_after = rw (piece-sought _ _ _ (sym c.sought.ensures ∙ c.if-sought.true)) c.geometry.ensures; value = omega (arith, bytes-sought _ _ (2 * c.args.n) (sym c.sought.ensures ∙ c.if-sought.true)) }
 
 pub returns : goal.returns
 returns c =

@@ -1,9 +1,7 @@
 -- `pages::copy_label` meets its contract: at each loop's head the first bytes of the label stand at the front. Assumes nothing.
-use mathlib.Core.Path.{◌≡◌, refl, ◌∙◌}
+use mathlib.Core.Path.{refl, ◌∙◌}
 use native.Mathlib.Omega.{arith}
-use Prim.Native.Nat.{◌≤◌, ◌-◌}
-use lib.ListN.{length, take, length-set}
-use Rattle.rules.specs.Bytes.{put}
+use lib.ListN.{length-set}
 use Rattle.wire.proofs.Runs.{put-none, put-more, put_all}
 use Rattle.pages.proofs.Lent.{put_whole}
 use Rattle.pages.proofs.copy_label.Goals as goal

@@ -1,11 +1,8 @@
 -- `pages::copy_label` meets its contract: at each loop's head the first bytes of the label stand at the front. Assumes nothing.
-use mathlib.Core.Path.{◌≡◌, refl, ◌∙◌}
-use native.Mathlib.Omega.{arith}
+use mathlib.Core.Path.{◌≡◌}
 use Prim.Native.Nat.{◌≤◌, ◌-◌}
-use lib.ListN.{length, take, length-set}
+use lib.ListN.{length, take}
 use Rattle.rules.specs.Bytes.{put}
-use Rattle.wire.proofs.Runs.{put-none, put-more, put_all}
-use Rattle.pages.proofs.Lent.{put_whole}
 use Rattle.pages.proofs.copy_label.Given as goal
 
 abbrev pub invariant-loop-i : goal.invariant-loop-i

@@ -5,7 +5,6 @@ use lib.ListN.{length}
 use Rattle.rules.specs.Choice.{when}
 use Rattle.rules.specs.Listing.{descriptor, width}
 use Rattle.pages.proofs.Descriptor.{label-length}
-use borrow.Author.Rules.{rules}
 use Rattle.pages.proofs.describe.Goals as goal
 
 pub label-requires : goal.label-requires

@@ -2,7 +2,7 @@
 -- the descriptor has room
 use mathlib.Core.Path.{◌≡◌, sym, ◌∙◌}
 use native.Mathlib.Omega.{arith}
-use Prim.Native.Nat.{◌+◌, ◌-◌, ◌≤◌}
+use Prim.Native.Nat.{ℕ, ◌+◌, ◌*◌, ◌-◌, ◌≤◌}
 use mathlib.Core.List.{List}
 use lib.ListN.{length}
 use Rattle.rules.specs.Listing.{descriptor, width}
@@ -11,20 +11,20 @@ use Rattle.pages.specs.Pages.{stock, slot}
 use Rattle.pages.proofs.Marked.{one_in, none_in}
 use Rattle.pages.proofs.Lent.{put-part}
 use Rattle.pages.proofs.Descriptor.{descriptor-length, descriptors-one, descriptors-none}
-use borrow.Author.Rules.{rules}
 use Rattle.pages.proofs.describe_marked.Goals as goal
 
-room : (c : tie.After-width)
-    → (let a = c.before.before.before.before.before.before.before.before.args in a.at + c.width.result ≤ length a.d.now)
-room c =
-    let asked = c.before.before in
-    let s = asked.before.before.before.before.before.before in
-    let o = one_in s.args.marks.now s.args.place (sym asked.marked.ensures ∙ c.before.if1.true) in
-    let h = rw o at s.requires.0 in
-    rw c.width.ensures (omega arith)
+room : (at w n width len : ℕ) → n ≡ 1 → w ≡ width → at + n * width ≤ len → at + w ≤ len
+room at w n width len e f h = rw f (omega (arith, rw e at h))
 
 pub overflow_add-next : goal.overflow_add-next
-overflow_add-next c = omega (arith, room c)
+overflow_add-next c =
+    let o = one_in c.args.marks.now c.args.place (sym c.marked.ensures ∙ c.if-marked.true) in
+    omega (arith, room _ _ _ _ _ o c.width.ensures c.requires.tagged_in_bounds)
+
+pub slice_bounds-describe-end : goal.slice_bounds-describe-end
+slice_bounds-describe-end c =
+    let o = one_in c.args.marks.now c.args.place (sym c.marked.ensures ∙ c.if-marked.true) in
+    omega (arith, room _ _ _ _ _ o c.width.ensures c.requires.tagged_in_bounds)
 
 pub returns-then-marked : goal.returns-then-marked
 returns-then-marked c =
@@ -34,17 +34,17 @@ returns-then-marked c =
     let w = c.width.result in
     let d : List _ = descriptor a.tagged t (slot a.kind a.address a.place) in
     let n : length d ≡ w = descriptor-length a.tagged t (slot a.kind a.address a.place) c.requires.labelled c.requires.element_size_in_bounds ∙ sym c.width.ensures in
-    let r = room c in (
-      rw (c.describe.ensures, descriptors-one a.tagged t a.marks.now a.kind a.address a.place m)
-          (put-part a.d.now a.at (a.at + w - a.at) d (omega arith) (omega arith)),
-      rw (one_in a.marks.now a.place m, c.width.ensures) (omega arith),
-    )
+    let r = room _ _ _ _ _ (one_in a.marks.now a.place m) c.width.ensures c.requires.tagged_in_bounds in record {
+      d_after = rw (c.describe.ensures, descriptors-one a.tagged t a.marks.now a.kind a.address a.place m)
+          (put-part a.d.now a.at (a.at + w - a.at) d (omega arith) (omega arith));
+      value = rw (one_in a.marks.now a.place m, c.width.ensures) (omega arith);
+    }
 
 pub returns : goal.returns
 returns c =
     let a = c.args in
     let t = stock a.elements.now a.tags.now a.blank.now in
-    let m = sym c.marked.ensures ∙ c.if-marked.false in (
-      rw (descriptors-none a.tagged t a.marks.now a.kind a.address a.place m) (sym (put-nothing _ _)),
-      rw (none_in a.marks.now a.place m) (omega arith),
-    )
+    let m = sym c.marked.ensures ∙ c.if-marked.false in record {
+      d_after = rw (descriptors-none a.tagged t a.marks.now a.kind a.address a.place m) (sym (put-nothing _ _));
+      value = rw (none_in a.marks.now a.place m) (omega arith);
+    }

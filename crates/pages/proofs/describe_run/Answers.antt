@@ -2,32 +2,26 @@
 -- front. Assumes nothing.
 use mathlib.Core.Path.{◌≡◌, sym, ap, ◌∙◌}
 use native.Mathlib.Omega.{arith}
-use Prim.Native.Nat.{◌+◌, ◌*◌, ◌-◌, ◌≤◌}
+use Prim.Native.Nat.{ℕ, ◌+◌, ◌*◌, ◌≤◌, ◌<◌}
+use mathlib.Core.List.{List}
 use native.Mathlib.Nat.{zero-add, add-mul, mul-le-mul_right}
 use lib.ListN.{length}
-use Rattle.rules.specs.Bytes.{put}
 use Rattle.rules.specs.Roster.{slots}
 use Rattle.rules.specs.Listing.{joined, keep, width}
 use Rattle.rules.proofs.Writes.{put-length, put-nothing, put-append}
-use Rattle.pages.specs.Marks.{marked_of, marks_in}
-use Rattle.pages.specs.Pages.{stock, descriptors}
+use Rattle.pages.specs.Marks.{marks_in}
+use Rattle.pages.specs.Pages.{stock}
 use Rattle.pages.proofs.Marked.{marks-split, marks-few}
 use Rattle.pages.proofs.Descriptor.{run_length, descriptors-more}
 use Rattle.pages.proofs.describe_run.Goals as goal
 
-room : (c : tie.In-loop invariant-loop decreases-loop)
-    → (let a = c.before.before.before.before.before.before.before.args in
-    let l = c.before.loop in
-    (l.at + marks_in a.marks.now 1 (a.place + l.i) * width a.tagged ≡ marks_in a.marks.now (l.i + 1) a.place * width a.tagged)
-    × (marks_in a.marks.now (l.i + 1) a.place * width a.tagged ≤ length a.d.now))
-room c =
-    let s = c.before.before.before.before.before.before.before in
-    let a = s.args in
-    let l = c.before.loop in
-    let e = marks-split a.marks.now l.i 1 a.place in
-    let f = marks-few a.marks.now (l.i + 1) a.n a.place (omega arith) in
-    let h = mul-le-mul_right (width a.tagged) f in
-    (rw (e, l.invariant.2) (sym (add-mul _ _ _)), omega (arith, h, s.requires.0))
+room : (marks : List ℕ) (at i n place w len : ℕ) → at ≡ marks_in marks i place * w → i < n → marks_in marks n place * w ≤ len
+    → (at + marks_in marks 1 (place + i) * w ≡ marks_in marks (i + 1) place * w) × (marks_in marks (i + 1) place * w ≤ len)
+room marks at i n place w len d g b =
+    let e = marks-split marks i 1 place in
+    let f = marks-few marks (i + 1) n place (omega arith) in
+    let h = mul-le-mul_right w f in
+    (rw (e, d) (sym (add-mul _ _ _)), omega (arith, h, b))
 
 pub loop-i-init : goal.loop-i-init
 unfolding joined slots keep marks_in
@@ -43,9 +37,14 @@ overflow_add-place c =
 pub describe_marked-at-requires : goal.describe_marked-at-requires
 describe_marked-at-requires c =
     let l = c.loop-i in
-    let r = room c in
+    let r = room c.args.marks.now l.at l.i c.args.n c.args.place (width c.args.tagged) (length c.args.d.now) l.invariant.2 c.loop-i-test.true c.requires.tagged_in_bounds in
     let e = ap length l.invariant.0 ∙ put-length _ _ _ in
-    (omega arith, (omega arith, (omega arith, c.requires.labelled)))
+    record {
+      tagged_in_bounds = omega arith;
+      address_bound = omega (arith, c.requires.n_bound);
+      element_size_in_bounds = omega (arith, c.requires.n_in_bounds);
+      labelled = c.requires.labelled;
+    }
 
 pub overflow_add-i : goal.overflow_add-i
 overflow_add-i c = omega (arith, c.requires.n_bound)
@@ -59,7 +58,7 @@ loop-i-preserved c =
     let a = c.args in
     let t = stock a.elements.now a.tags.now a.blank.now in
     let n = run_length a.tagged t a.marks.now a.kind a.address a.place l.i c.requires.labelled (omega arith) in
-    let r = room c in (
+    let r = room c.args.marks.now l.at l.i c.args.n c.args.place (width c.args.tagged) (length c.args.d.now) l.invariant.2 c.loop-i-test.true c.requires.tagged_in_bounds in (
       c.describe_marked-at.ensures.d_after
           ∙ rw (l.invariant.0, descriptors-more a.tagged t a.marks.now a.kind a.address a.place l.i)
           (put-append a.d.now 0 l.at _ _ (zero-add _ ∙ n ∙ sym l.invariant.2)),

@@ -1,18 +1,11 @@
 -- `pages::describe_run` meets its contract: at the loop's head, the descriptors of those of the first i elements that are marked stand at the
 -- front. Assumes nothing.
-use mathlib.Core.Path.{◌≡◌, sym, ap, ◌∙◌}
-use native.Mathlib.Omega.{arith}
-use Prim.Native.Nat.{◌+◌, ◌*◌, ◌-◌, ◌≤◌}
-use native.Mathlib.Nat.{zero-add, add-mul, mul-le-mul_right}
-use lib.ListN.{length}
+use mathlib.Core.Path.{◌≡◌}
+use Prim.Native.Nat.{◌*◌, ◌-◌, ◌≤◌}
 use Rattle.rules.specs.Bytes.{put}
-use Rattle.rules.specs.Roster.{slots}
-use Rattle.rules.specs.Listing.{joined, keep, width}
-use Rattle.rules.proofs.Writes.{put-length, put-nothing, put-append}
+use Rattle.rules.specs.Listing.{width}
 use Rattle.pages.specs.Marks.{marked_of, marks_in}
 use Rattle.pages.specs.Pages.{stock, descriptors}
-use Rattle.pages.proofs.Marked.{marks-split, marks-few}
-use Rattle.pages.proofs.Descriptor.{run_length, descriptors-more}
 use Rattle.pages.proofs.describe_run.Given as goal
 
 abbrev pub invariant-loop-i : goal.invariant-loop-i

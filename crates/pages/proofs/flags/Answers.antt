@@ -1,7 +1,6 @@
 -- `pages::flags` meets its contract. Assumes nothing.
 use Rattle.rules.proofs.Ladder.{ladder}
 use Rattle.rules.specs.Listing.{flags}
-use borrow.Author.Rules.{rules}
 use Rattle.pages.proofs.flags.Goals as goal
 
 pub returns-then-kind-eq-TRANSPORT : goal.returns-then-kind-eq-TRANSPORT

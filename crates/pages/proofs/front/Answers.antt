@@ -3,7 +3,6 @@ use native.Mathlib.Omega.{arith}
 use lib.ListN.{length-set}
 use Rattle.rules.specs.Bytes.{put}
 use Rattle.rules.specs.Listing.{front}
-use borrow.Author.Rules.{rules}
 use Rattle.pages.proofs.front.Goals as goal
 
 pub bounds-d-1 : goal.bounds-d-1

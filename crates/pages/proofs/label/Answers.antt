@@ -5,7 +5,6 @@ use Rattle.rules.specs.Choice.{when}
 use borrow.Author.Tests.{eq-eqb, ne_eqb}
 use Prim.Native.Nat.{◌+◌, ◌*◌, ◌-◌}
 use Rattle.rules.specs.Listing.{label}
-use borrow.Author.Rules.{rules}
 use Rattle.pages.proofs.label.Goals as goal
 
 pub returns-then-volume-eq0 : goal.returns-then-volume-eq0

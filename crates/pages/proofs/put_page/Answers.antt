@@ -6,35 +6,23 @@ use borrow.Author.Tests.{eq-eqb, ne_eqb}
 use Prim.Native.Nat.{ℕ, ◌+◌, ◌*◌, ◌-◌, ◌≤◌}
 use mathlib.Core.List.{List}
 use lib.ListN.{length, length-take, length-drop}
-use borrow.Rule.Slice.PartMut.{put_mid, same_len_mid}
+use borrow.Rule.Slice.PartMut.{same_len_mid}
 use Rattle.rules.specs.Choice.{when}
 use mathlib.Core.Bool.{Bool}
 use Rattle.rules.specs.Bytes.{three}
-use Rattle.rules.specs.Listing.{page_header}
+use Rattle.rules.specs.Listing.{page_header, width}
 use Rattle.pages.specs.Marks.{marked_of}
-use Rattle.pages.specs.Pages.{stock, descriptors, shown}
+use Rattle.pages.specs.Pages.{stock, page_bytes, descriptors, shown}
 use Rattle.pages.proofs.Lent.{put_both}
 use Rattle.rules.proofs.Writes.{put-nothing}
 use Rattle.pages.proofs.Marked.{marks-length}
 use Rattle.pages.proofs.Descriptor.{run_length, page-bytes-is}
-use borrow.Author.Rules.{rules}
 use Rattle.pages.proofs.put_page.Goals as goal
 
-room : (c : tie.After-width)
-    → (let a = c.before.before.before.before.before.before.before.args in a.at + 8 + a.m * c.width.result ≤ length a.answer.now)
-room c =
-    let s = c.before.before.before.before.before.before.before in
-    let u = page-bytes-is s.args.tagged s.args.m c.before.if1.false in
-    rw c.width.ensures (omega (arith, u, s.requires.0))
-
--- and keeps its length once its header is written
-
-kept : (c : tie.After-page-header)
-    → (let a = c.before.before.before.before.before.before.before.before.before.args in
-    length (put_mid a.at (a.at + 8 - a.at) a.answer.now c.page-header.new.0) ≡ length a.answer.now)
-kept c =
-    let a = c.before.before.before.before.before.before.before.before.before.args in
-    same_len_mid a.at (a.at + 8 - a.at) a.answer.now c.page-header.new.0 c.page-header.auto.0
+room : (tagged : Bool) (m w at len : ℕ) → w ≡ width tagged → (m ≡ 0 → ⊥) → at + page_bytes tagged m ≤ len → at + 8 + m * w ≤ len
+room tagged m w at len e g h =
+    let u = page-bytes-is tagged m g in
+    rw e (omega arith)
 
 header-length : (tagged : Bool) (kind n : ℕ) → length (page_header tagged kind n) ≡ 8
 unfolding page_header three
@@ -48,18 +36,28 @@ returns-then-m-eq0 c =
     rw (eq-eqb _ _ e) (sym (put-nothing _ _))
 
 pub overflow_mul-end : goal.overflow_mul-end
-overflow_mul-end c = omega (arith, room c)
+overflow_mul-end c = omega (arith, room c.args.tagged c.args.m c.width.result c.args.at (length c.args.answer.now) c.width.ensures c.if-m-eq0.false c.requires.m_in_bounds)
 
 pub overflow_add-end : goal.overflow_add-end
-overflow_add-end c = omega (arith, room c)
+overflow_add-end c = omega (arith, room c.args.tagged c.args.m c.width.result c.args.at (length c.args.answer.now) c.width.ensures c.if-m-eq0.false c.requires.m_in_bounds)
 
 pub describe_run-requires : goal.describe_run-requires
 describe_run-requires c =
-    let k = kept c in
-    let f = room c in (
-      rw (← c.requires.m_value.0, ← c.width.ensures) (simp (length-take, length-drop) (omega (arith, k, f))),
-      (c.requires.run_bound, (c.requires.run_in_bounds, c.requires.labelled)),
-    )
+    let k = same_len_mid c.args.at (c.args.at + 8 - c.args.at) c.args.answer.now c.page_header.new.d c.page_header.auto.d in
+    let f = room c.args.tagged c.args.m c.width.result c.args.at (length c.args.answer.now) c.width.ensures c.if-m-eq0.false c.requires.m_in_bounds in record {
+      tagged_in_bounds = rw (← c.requires.m_value.0, ← c.width.ensures) (simp (length-take, length-drop) (omega arith));
+      n_bound = c.requires.run_bound;
+      n_in_bounds = c.requires.run_in_bounds;
+      labelled = c.requires.labelled;
+    }
+
+pub slice_bounds-page_header-end : goal.slice_bounds-page_header-end
+slice_bounds-page_header-end c = omega (arith, room c.args.tagged c.args.m c.width.result c.args.at (length c.args.answer.now) c.width.ensures c.if-m-eq0.false c.requires.m_in_bounds)
+
+pub slice_bounds-describe_run-end : goal.slice_bounds-describe_run-end
+slice_bounds-describe_run-end c =
+    let k = same_len_mid c.args.at (c.args.at + 8 - c.args.at) c.args.answer.now c.page_header.new.d c.page_header.auto.d in
+    omega (arith, room c.args.tagged c.args.m c.width.result c.args.at (length c.args.answer.now) c.width.ensures c.if-m-eq0.false c.requires.m_in_bounds)
 
 pub returns : goal.returns
 unfolding shown when
@@ -72,7 +70,7 @@ returns c =
     let m : length ss ≡ a.m = marks-length a.marks.now a.kind a.address a.place a.run ∙ sym c.requires.m_value.0 in
     let e : length d ≡ a.m * w.result =
     rw (w.ensures, c.requires.m_value.0) (run_length a.tagged t a.marks.now a.kind a.address a.place a.run c.requires.labelled c.requires.run_in_bounds) in
-    let f = room c in
+    let f = room c.args.tagged c.args.m c.width.result c.args.at (length c.args.answer.now) c.width.ensures c.if-m-eq0.false c.requires.m_in_bounds in
     let h = header-length a.tagged a.kind a.n in
     rw (c.describe_run.ensures, c.page_header.ensures, m, ne_eqb a.m 0 c.if-m-eq0.false)
     (put_both a.answer.now a.at (a.at + 8 - a.at) (a.at + 8) (a.at + 8 + a.m * w.result - (a.at + 8)) (page_header a.tagged a.kind a.n) d (omega arith) (omega arith) (omega arith) (omega arith))

@@ -5,7 +5,6 @@ use mathlib.Core.List.{List, ◌++◌, append_assoc}
 use lib.ListN.{length, length-append}
 use Rattle.rules.specs.Listing.{front, four_zeros}
 use Rattle.pages.proofs.Lent.{put-behind}
-use borrow.Author.Rules.{rules}
 use Rattle.pages.proofs.with_label.Goals as goal
 
 pub returns : goal.returns

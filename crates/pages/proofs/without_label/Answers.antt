@@ -3,7 +3,6 @@ use mathlib.Core.Path.{refl}
 use native.Mathlib.Omega.{arith}
 use Rattle.rules.specs.Listing.{front, four_zeros}
 use Rattle.pages.proofs.Lent.{put-behind}
-use borrow.Author.Rules.{rules}
 use Rattle.pages.proofs.without_label.Goals as goal
 
 pub returns : goal.returns

@@ -3,7 +3,6 @@ use mathlib.Core.Path.{refl}
 use native.Mathlib.Omega.{arith}
 use lib.ListN.{length-set}
 use Rattle.rules.specs.Bytes.{put}
-use borrow.Author.Rules.{rules}
 use Rattle.pages.proofs.zeros.Goals as goal
 
 pub bounds-d-1 : goal.bounds-d-1

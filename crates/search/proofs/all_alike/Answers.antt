@@ -1,4 +1,5 @@
 -- `search::all_alike`: at the loop's head the bytes before i go with the label's. Assumes nothing.
+use Rattle.std.proofs.Common.{ap, not}
 use Prim.Native.Nat.{◌-◌}
 use borrow.Author.Rules.{rules}
 use Rattle.rules.specs.Bytes.{byte}
@@ -12,12 +13,12 @@ loop-i-init c = alike-begins _ _ _
 pub returns-then-not-alike : goal.returns-then-not-alike
 unfolding goes byte
 returns-then-not-alike c =
-    alike-stops _ _ _ _ c.loop-i.invariant c.loop-i-test.true _ c.alike.ensures c.if-not-alike.true
+    alike-stops _ _ _ _ c.loop-i.invariant c.loop-i-test.true _ c.alike.ensures (ap not c.if-not-alike.true)
 
 pub loop-i-preserved : goal.loop-i-preserved
 unfolding goes byte
 loop-i-preserved c =
-    alike-on _ _ _ _ c.loop-i.invariant c.loop-i-test.true _ c.alike.ensures c.if-not-alike.false
+    alike-on _ _ _ _ c.loop-i.invariant c.loop-i-test.true _ c.alike.ensures (ap not c.if-not-alike.false)
 
 pub returns : goal.returns
 returns c = alike-ends _ _ _ _ c.loop-i.invariant c.loop-i-test.false

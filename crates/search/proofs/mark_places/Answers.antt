@@ -1,11 +1,11 @@
 -- `search::mark_places`: at the loop's head the places before p are looked at. Assumes nothing.
 use Prim.Native.Nat.{◌≤◌, ◌-◌}
 use native.Mathlib.Omega.{arith}
-use mathlib.Core.Logic.{⊎_elim}
 use borrow.Author.Rules.{rules}
 use Rattle.rules.proofs.Loops.{turned_none, turned-all}
 use Rattle.search.proofs.Places.{Placed, placed-more, mark_made, mark-none}
 use Rattle.search.proofs.mark_places.Goals as goal
+use Rattle.search.proofs.mark_places.Goals.{then-volume_fits, else-volume_fits}
 
 pub loop-p-init : goal.loop-p-init
 loop-p-init c = (search rules, turned_none _ _ _)
@@ -22,10 +22,10 @@ loop-p-preserved c =
     let l = c.loop-p.invariant in (
       search rules,
       placed-more _ _ _ _ _ _ _ l.1 _
-          (⊎_elim
-          (λ w. mark_made _ _ _ _ _ _ c.volume.ensures c.volume_fits.ensures _ _ w.0.taken w.1)
-          (λ w. mark-none _ _ _ _ _ _ c.volume.ensures c.volume_fits.ensures _ _ w.0.left w.1)
-          c.if-volume_fits.branch),
+          (elim c.if-volume_fits.branch [
+            | then-volume_fits w ↦ mark_made _ _ _ _ _ _ c.volume.ensures c.volume_fits.ensures _ _ w.if-volume_fits.true w.marks-is
+            | else-volume_fits w ↦ mark-none _ _ _ _ _ _ c.volume.ensures c.volume_fits.ensures _ _ w.if-volume_fits.false w.marks-is
+          ]),
     )
 
 pub shape_of-marks : goal.shape_of-marks

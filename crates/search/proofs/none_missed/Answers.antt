@@ -1,11 +1,11 @@
 -- `search::none_missed`: at the loop's head `missed` tells of the bytes before i. Assumes nothing.
 use Prim.Native.Nat.{◌-◌}
 use native.Mathlib.Omega.{arith}
-use mathlib.Core.Logic.{⊎_elim}
 use borrow.Author.Rules.{rules}
 use Rattle.rules.specs.Bytes.{byte}
 use Rattle.search.proofs.Templates.{Missing, miss-begins, miss-ends, care-small, miss-same, miss-other}
 use Rattle.search.proofs.none_missed.Goals as goal
+use Rattle.search.proofs.none_missed.Goals.{then-search-i, else-search-i}
 
 pub loop-i-init : goal.loop-i-init
 loop-i-init c = miss-begins _ _ _
@@ -27,10 +27,10 @@ unfolding byte
 loop-i-preserved c =
     let at = c.loop-i.invariant in
     let made = c.requires.1.1 in
-    ⊎_elim
-    (λ w. miss-other _ _ _ _ made _ _ at c.loop-i-test.true w.0.taken _ w.2)
-    (λ w. miss-same _ _ _ _ made _ _ at c.loop-i-test.true w.0.left _ w.1)
-    c.if-search-i.branch
+    elim c.if-search-i.branch [
+      | then-search-i w ↦ miss-other _ _ _ _ made _ _ at c.loop-i-test.true w.if-search-i.true _ w.missed-is
+      | else-search-i w ↦ miss-same _ _ _ _ made _ _ at c.loop-i-test.true w.if-search-i.false _ w.missed-is
+    ]
 
 pub returns : goal.returns
 returns c = miss-ends _ _ _ _ _ c.loop-i.invariant c.loop-i-test.false

@@ -7,9 +7,6 @@ use Rattle.sense.proofs.Telling.{least-most}
 use borrow.Author.Rules.{rules}
 use Rattle.sense.proofs.judge.Goals as goal
 
-pub overflow_cast-block : goal.overflow_cast-block
-overflow_cast-block c = search (rules, c.shared_slice_known-3-1.given 4)
-
 pub returns-then-room-count : goal.returns-then-room-count
 unfolding sense_by byte
 returns-then-room-count c = record { value = rw (sym c.cut-count.ensures) (search ladder depth 10); within = tt }

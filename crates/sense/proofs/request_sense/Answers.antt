@@ -8,11 +8,21 @@ use Rattle.sense.proofs.request_sense.Goals as goal
 
 pub tell_attention-requires : goal.tell_attention-requires
 tell_attention-requires c =
-    let w = rw c.in-Attention.is at c.judge.ensures.within in (search rules, (search rules, w))
+    let w = rw c.in-Attention.is at c.judge.ensures.within in record {
+      head_size_in_bounds = search rules;
+      host_le_hosts = search rules;
+      count_le_whole = w.0;
+      count_in_bounds = w.1;
+    }
 
 pub tell_sense-requires : goal.tell_sense-requires
 tell_sense-requires c =
-    let w = rw c.in-Sense.is at c.judge.ensures.within in (search rules, (search rules, w))
+    let w = rw c.in-Sense.is at c.judge.ensures.within in record {
+      head_size_in_bounds = search rules;
+      host_le_hosts = search rules;
+      count_le_whole = w.0;
+      count_in_bounds = w.1;
+    }
 
 pub returns-in-Short : goal.returns-in-Short
 unfolding meaning outcome

@@ -17,7 +17,7 @@ slice_bounds-copy-end c = sym (length-take-le _ _ (search rules))
 
 pub copy-requires : goal.copy-requires
 unfolding told cut
-copy-requires c = let pre = c.requires in rw (cut-within _ (told _ _ _) pre.0) pre.1
+copy-requires c = let pre = c.requires in rw (cut-within _ (told _ _ _) pre.count_le_whole) pre.count_in_bounds
 
 pub returns : goal.returns
 unfolding told cut

@@ -1,7 +1,6 @@
 -- `sound_head::quiet`: at the loop's head the first i hosts are quiet. Assumes nothing.
 use Prim.Native.Nat.{◌-◌}
 use borrow.Author.Rules.{rules}
-use borrow.Author.Tests.{not-false}
 use Rattle.rules.specs.Tables.{hosts}
 use Rattle.rules.proofs.Ladder.{never}
 use Rattle.sound_head.proofs.Hosts.{Quieter, quiet_none, quiet-more, quiet_all}
@@ -15,7 +14,7 @@ returns-then-not-host_quiet c = λ e. absurd (never e)
 
 pub loop-i-preserved : goal.loop-i-preserved
 loop-i-preserved c =
-    quiet-more _ _ c.loop-i.invariant c.loop-i-test.true (c.host_quiet.ensures (not-false _ c.if-not-host_quiet.false))
+    quiet-more _ _ c.loop-i.invariant c.loop-i-test.true (c.host_quiet.ensures c.if-not-host_quiet.false)
 
 pub returns : goal.returns
 returns c = λ e. quiet_all _ _ c.loop-i.invariant c.loop-i-test.false

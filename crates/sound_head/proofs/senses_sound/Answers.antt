@@ -1,6 +1,7 @@
 -- `sound_head::senses_sound`: at the loop's head the first i hosts are passed. Assumes nothing.
 use Prim.Native.Nat.{suc, ◌-◌}
 use borrow.Author.Rules.{rules}
+use Rattle.std.proofs.Common.{ap, not}
 use Rattle.rules.specs.Tables.{hosts, key, asc, ascq}
 use Rattle.rules.specs.Sound.{sense_sound}
 use Rattle.sound_head.proofs.Loops.{Held, held_none, held_all, turn_on, turn-stops}
@@ -11,10 +12,10 @@ pub loop-i-init : goal.loop-i-init
 loop-i-init c = held_none _ _
 
 pub returns-then-not-sense_sound : goal.returns-then-not-sense_sound
-returns-then-not-sense_sound c = turn-stops _ _ _ c.loop-i.invariant c.loop-i-test.true _ (sense-by _ _ _ _ _ _ c.key.ensures c.asc.ensures c.ascq.ensures c.sense_sound.ensures) c.if-not-sense_sound.true
+returns-then-not-sense_sound c = turn-stops _ _ _ c.loop-i.invariant c.loop-i-test.true _ (sense-by _ _ _ _ _ _ c.key.ensures c.asc.ensures c.ascq.ensures c.sense_sound.ensures) (ap not c.if-not-sense_sound.true)
 
 pub loop-i-preserved : goal.loop-i-preserved
-loop-i-preserved c = turn_on _ _ _ c.loop-i.invariant c.loop-i-test.true _ (sense-by _ _ _ _ _ _ c.key.ensures c.asc.ensures c.ascq.ensures c.sense_sound.ensures) c.if-not-sense_sound.false
+loop-i-preserved c = turn_on _ _ _ c.loop-i.invariant c.loop-i-test.true _ (sense-by _ _ _ _ _ _ c.key.ensures c.asc.ensures c.ascq.ensures c.sense_sound.ensures) (ap not c.if-not-sense_sound.false)
 
 pub returns : goal.returns
 returns c = held_all _ _ _ c.loop-i.invariant c.loop-i-test.false

@@ -1,12 +1,7 @@
 -- `pages::marks::count` meets its contract: at the loop's head, the marks found and those from here on are all. Assumes nothing.
-use mathlib.Core.Path.{◌≡◌, sym}
-use mathlib.Core.Logic.{⊎_elim}
-use native.Mathlib.Omega.{arith}
+use mathlib.Core.Path.{◌≡◌}
 use Prim.Native.Nat.{◌+◌, ◌-◌, ◌≤◌, ◌<◌}
-use borrow.Author.Rules.{rules}
-use Rattle.rules.specs.Bytes.{byte}
 use Rattle.pages.specs.Marks.{marks_in}
-use Rattle.pages.proofs.Marked.{marks-all, marks-end, marks-zero, count-marked, count-not}
 use Rattle.pages.proofs.marks.count.Given as goal
 
 abbrev pub invariant-loop-i : goal.invariant-loop-i

@@ -3,7 +3,6 @@ use mathlib.Core.Path.{sym}
 use Rattle.rules.specs.Choice.{differ}
 use Rattle.rules.specs.Bytes.{byte}
 use Rattle.pages.proofs.Marked.{all-marked, told-by, none-behind}
-use borrow.Author.Rules.{rules}
 use Rattle.pages.proofs.marks.marked.Goals as goal
 
 pub returns-then-marks-eq0 : goal.returns-then-marks-eq0

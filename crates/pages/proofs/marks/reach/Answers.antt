@@ -1,13 +1,11 @@
 -- `pages::marks::reach` meets its contract: at the loop's head, the places passed and those still to pass reach as far as all. Assumes nothing.
 use mathlib.Core.Path.{◌≡◌, sym, ◌∙◌}
-use mathlib.Core.Logic.{⊎_elim}
 use native.Mathlib.Omega.{arith}
-use Prim.Native.Nat.{◌+◌, ◌-◌, ◌≤◌}
+use Prim.Native.Nat.{◌+◌, ◌-◌}
 use native.Mathlib.Nat.{zero-add, sub-zero, add-zero}
-use borrow.Author.Rules.{rules}
-use Rattle.pages.specs.Marks.{reach_of}
 use Rattle.pages.proofs.Marked.{reach-all, reach-none, reach-empty, reach-on, reach-past}
 use Rattle.pages.proofs.marks.reach.Goals as goal
+use Rattle.pages.proofs.marks.reach.Goals.{then-marked, else-marked}
 
 pub returns-then-marks-eq0 : goal.returns-then-marks-eq0
 returns-then-marks-eq0 c = c.least.ensures ∙ sym (reach-all _ _ _ _ c.if-marks-eq0.true)
@@ -41,10 +39,14 @@ loop-i-preserved c =
     let n = c.loop-i-test.true in
     let some = c.if-left-eq0.false in
     let e = c.marked.ensures in
-    ⊎_elim
-    (λ w. let r = reach-on marks c.args.place l.left l.i c.args.n n some (sym e ∙ w.0.taken) in (rw w.1 (sym r ∙ l.invariant.0), omega arith))
-    (λ w. let r = reach-past marks c.args.place l.left l.i c.args.n n some (sym e ∙ w.0.left) in (rw w.1 (sym r ∙ l.invariant.0), omega arith))
-    c.if-marked.branch
+    elim c.if-marked.branch [
+      | then-marked w ↦
+          let r = reach-on marks c.args.place l.left l.i c.args.n n some (sym e ∙ w.if-marked.true) in
+          (rw w.left-is (sym r ∙ l.invariant.0), omega arith)
+      | else-marked w ↦
+          let r = reach-past marks c.args.place l.left l.i c.args.n n some (sym e ∙ w.if-marked.false) in
+          (rw w.left-is (sym r ∙ l.invariant.0), omega arith)
+    ]
 
 pub returns : goal.returns
 returns c =

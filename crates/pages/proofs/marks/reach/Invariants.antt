@@ -1,12 +1,7 @@
 -- `pages::marks::reach` meets its contract: at the loop's head, the places passed and those still to pass reach as far as all. Assumes nothing.
-use mathlib.Core.Path.{◌≡◌, sym, ◌∙◌}
-use mathlib.Core.Logic.{⊎_elim}
-use native.Mathlib.Omega.{arith}
+use mathlib.Core.Path.{◌≡◌}
 use Prim.Native.Nat.{◌+◌, ◌-◌, ◌≤◌}
-use native.Mathlib.Nat.{zero-add, sub-zero, add-zero}
-use borrow.Author.Rules.{rules}
 use Rattle.pages.specs.Marks.{reach_of}
-use Rattle.pages.proofs.Marked.{reach-all, reach-none, reach-empty, reach-on, reach-past}
 use Rattle.pages.proofs.marks.reach.Given as goal
 
 abbrev pub invariant-loop-i : goal.invariant-loop-i
