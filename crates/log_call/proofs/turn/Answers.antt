@@ -1,6 +1,5 @@
 -- `log_call::turn` meets its contract. Assumes nothing.
 use native.Mathlib.Omega.{arith}
-use borrow.Author.Tests.{not-true, not-false}
 use Rattle.rules.specs.Tables.{lent}
 use Rattle.log_call.proofs.Lines.{stopped-takes, held, block-long, list-long, takes, another-form, another-number, not_carried, was-carried}
 use borrow.Author.Rules.{rules}
@@ -28,11 +27,11 @@ slice_bounds-carry-end-in-Entry-3 c =
 
 pub returns-then-not-carry : goal.returns-then-not-carry
 returns-then-not-carry c =
-    record { search_after = λ rest g s. not_carried _ _ _ _ c.read_line.ensures.list_after c.read_line.ensures.within (lent _ _ _) _ _ _ _ _ _ c.in-Entry.is c.if-number-expected.false _ _ (c.carry.ensures rest _ g s) (not-true _ c.if-not-carry.true); taken = stopped-takes _ }
+    record { search_after = λ rest g s. not_carried _ _ _ _ c.read_line.ensures.list_after c.read_line.ensures.within (lent _ _ _) _ _ _ _ _ _ c.in-Entry.is c.if-number-expected.false _ _ (c.carry.ensures rest _ g s) c.if-not-carry.true; taken = stopped-takes _ }
 
 pub overflow_add-result : goal.overflow_add-result
 overflow_add-result c =
-    omega (arith, c.well_formed.1.1.1.1.1.1.1.1.1.0, (held _ _ _ _ c.read_line.ensures.list_after c.read_line.ensures.within _ _ _ _ _ c.in-Entry.is).inside)
+    omega (arith, (held _ _ _ _ c.read_line.ensures.list_after c.read_line.ensures.within _ _ _ _ _ c.in-Entry.is).inside)
 
 pub returns-in-Other : goal.returns-in-Other
 returns-in-Other c =
@@ -40,4 +39,4 @@ returns-in-Other c =
 
 pub returns-else-not-carry : goal.returns-else-not-carry
 returns-else-not-carry c =
-    record { search_after = λ rest g s. was-carried _ _ _ _ c.read_line.ensures.list_after c.read_line.ensures.within (lent _ _ _) _ _ _ _ _ _ c.in-Entry.is c.if-number-expected.false _ _ (c.carry.ensures rest _ g s) _ (not-false _ c.if-not-carry.false); taken = takes _ _ _ _ c.read_line.ensures.list_after c.read_line.ensures.within _ _ _ _ _ c.in-Entry.is }
+    record { search_after = λ rest g s. was-carried _ _ _ _ c.read_line.ensures.list_after c.read_line.ensures.within (lent _ _ _) _ _ _ _ _ _ c.in-Entry.is c.if-number-expected.false _ _ (c.carry.ensures rest _ g s) _ c.if-not-carry.false; taken = takes _ _ _ _ c.read_line.ensures.list_after c.read_line.ensures.within _ _ _ _ _ c.in-Entry.is }

@@ -8,24 +8,6 @@ use Rattle.log_line.proofs.Text.{tail}
 use Rattle.replay.proofs.Ways.{told-ends, starts, all_done, log-ends, ten, Went, went, onward, still-sound, still-runs, Going}
 use Rattle.replay.proofs.turns.Goals as goal
 
-went_on : (c : tie.After-known-told invariant-loop decreases-loop)
-    → (let turn = c.before.before.before.before.before.before.before.before.before.before.before in
-    let no1 = turn.before.before.before.before.before.before.before in
-    let round = no1.before in
-    let l = round.before.loop in
-    let start = round.before.before.before.before.before.before.before.before.before.before in
-    Went start.args.log.now l.place l.next c.before.taken.given.0.0)
-went_on c =
-    let turn = c.before.before.before.before.before.before.before.before.before.before.before in
-    let no1 = turn.before.before.before.before.before.before.before in
-    let round = no1.before in
-    let l = round.before.loop in
-    let start = round.before.before.before.before.before.before.before.before.before.before in
-    let log = start.args.log.now in
-    let k = start.requires.0 in
-    let still = l.invariant.sound-still k.rest k.given k.sound-now in
-    went (lent _ _ _) log _ _ (lent _ _ _) _ _ _ (l.invariant.stands k.rest k.given k.sound-now) round.loop-test.true l.invariant.inside no1.if1.false _ (tail log l.place) _ (lent _ _ _) (turn.turn.ensures.0 k.rest k.given still) _ c.before.taken.given.1 turn.turn.ensures.1
-
 pub loop-lines-init : goal.loop-lines-init
 loop-lines-init c =
     record {
@@ -70,17 +52,17 @@ turn-requires c =
 pub shape_of-head-in-Stopped : goal.shape_of-head-in-Stopped
 shape_of-head-in-Stopped c =
     let l = c.loop-lines in
-    c.turn.auto.elements ∙ l.invariant.kept-head
+    c.turn.auto.head ∙ l.invariant.kept-head
 
 pub shape_of-elements-in-Stopped : goal.shape_of-elements-in-Stopped
 shape_of-elements-in-Stopped c =
     let l = c.loop-lines in
-    c.turn.auto.search ∙ l.invariant.kept-elements
+    c.turn.auto.elements ∙ l.invariant.kept-elements
 
 pub shape_of-search-in-Stopped : goal.shape_of-search-in-Stopped
 shape_of-search-in-Stopped c =
     let l = c.loop-lines in
-    c.turn.auto.list.1.1.0 ∙ l.invariant.kept-search
+    c.turn.auto.search ∙ l.invariant.kept-search
 
 pub returns-in-Stopped : goal.returns-in-Stopped
 returns-in-Stopped c =
@@ -90,14 +72,27 @@ returns-in-Stopped c =
 
 pub overflow_add-place : goal.overflow_add-place
 overflow_add-place c =
-    omega (arith, c.well_formed.1.1.1.1.1.1.1.1.0, (went_on c).inside)
+    let l = c.loop-lines in
+    let log = c.args.log.now in
+    let k = c.requires.kept in
+    let still = l.invariant.sound-still k.rest k.given k.sound-now in
+    let w : Went log l.place l.next c.in-Applied.taken
+    = went (lent _ _ _) log _ _ (lent _ _ _) _ _ _ (l.invariant.stands k.rest k.given k.sound-now) c.loop-lines-test.true l.invariant.inside c.if-place-log.false _ (tail log l.place) _ (lent _ _ _) (c.turn.ensures.search_after k.rest k.given still) _ c.in-Applied.is c.turn.ensures.taken in
+    omega (arith, w.inside)
 
 pub overflow_add-lines : goal.overflow_add-lines
 overflow_add-lines c =
     omega (arith, c.loop-lines-test.true, c.ranges)
 
 pub overflow_add-next : goal.overflow_add-next
-overflow_add-next c = omega (arith, (went_on c).low)
+overflow_add-next c =
+    let l = c.loop-lines in
+    let log = c.args.log.now in
+    let k = c.requires.kept in
+    let still = l.invariant.sound-still k.rest k.given k.sound-now in
+    let w : Went log l.place l.next c.in-Applied.taken
+    = went (lent _ _ _) log _ _ (lent _ _ _) _ _ _ (l.invariant.stands k.rest k.given k.sound-now) c.loop-lines-test.true l.invariant.inside c.if-place-log.false _ (tail log l.place) _ (lent _ _ _) (c.turn.ensures.search_after k.rest k.given still) _ c.in-Applied.is c.turn.ensures.taken in
+    omega (arith, w.low)
 
 pub loop-lines-smaller : goal.loop-lines-smaller
 loop-lines-smaller c =
@@ -108,16 +103,19 @@ loop-lines-preserved c =
     let l = c.loop-lines in
     let log = c.args.log.now in
     let k = c.requires.kept in
+    let still = l.invariant.sound-still k.rest k.given k.sound-now in
+    let w : Went log l.place l.next c.in-Applied.taken
+    = went (lent _ _ _) log _ _ (lent _ _ _) _ _ _ (l.invariant.stands k.rest k.given k.sound-now) c.loop-lines-test.true l.invariant.inside c.if-place-log.false _ (tail log l.place) _ (lent _ _ _) (c.turn.ensures.search_after k.rest k.given still) _ c.in-Applied.is c.turn.ensures.taken in
     record {
-      kept-head = c.turn.auto.elements ∙ l.invariant.kept-head;
-      kept-elements = c.turn.auto.search ∙ l.invariant.kept-elements;
-      kept-search = c.turn.auto.list.1.1.0 ∙ l.invariant.kept-search;
+      kept-head = c.turn.auto.head ∙ l.invariant.kept-head;
+      kept-elements = c.turn.auto.elements ∙ l.invariant.kept-elements;
+      kept-search = c.turn.auto.search ∙ l.invariant.kept-search;
       runs-are = still-runs (lent _ _ _) (lent _ _ _) _ _ _ (c.turn.ensures.search_after k.rest k.given (l.invariant.sound-still k.rest k.given k.sound-now)) _ l.invariant.runs-are;
       sound-still = λ rest g s. still-sound _ _ _ _ _ (c.turn.ensures.search_after rest g (l.invariant.sound-still rest g s)) (l.invariant.sound-still rest g s);
-      block_room = c.turn.auto.list.1.1.1.1.1.1.0 ∙ l.invariant.block_room;
-      list-room = c.turn.auto.list.1.1.1.1.1.1.1.0 ∙ l.invariant.list-room;
+      block_room = c.turn.auto.block ∙ l.invariant.block_room;
+      list-room = c.turn.auto.list ∙ l.invariant.list-room;
       within-budget = omega (arith, c.loop-lines-test.true);
-      inside = (went_on c).inside;
+      inside = w.inside;
       stands = λ rest g s. onward (lent _ _ (searching rest _)) log _ _ (lent _ _ (searching rest _)) _ _ _ (l.invariant.stands rest g s) c.loop-lines-test.true l.invariant.inside c.if-place-log.false _ (tail log l.place) _ (lent _ _ (searching rest _)) (c.turn.ensures.search_after rest g (l.invariant.sound-still rest g s)) _ c.in-Applied.is c.turn.ensures.taken;
     }
 
