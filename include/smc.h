@@ -29,6 +29,7 @@
  * - Every call first checks all tables, in one pass. Measured by the benchmark in tests/: a readiness test takes about 0.1 microseconds at 7
  *   elements and 1.5 at 512; at 512, MOVE, EXCHANGE and MODE SENSE take no more than can be told from that; a whole listing with tags, and a
  *   RESERVE of 32 descriptors that name all 512 elements, the dearest calls, take 3 to 5. A replay checks the tables once, and not once a line.
+ * Stack and times were measured on a library that an older kit made (rattle-kit-5b), and not again since.
  */
 #ifndef SMC_H
 #define SMC_H
