@@ -21,7 +21,7 @@
  * - No two calls at once on the same tables, and nobody writes a lent slice while a call runs.
  *
  * What the library is:
- * - x86-64 code for the System V calling convention (Linux). Of other symbols it needs memcpy and memset alone.
+ * - x86-64 code (x86-64-v2) for the System V calling convention (Linux). Of other symbols it needs memcpy and memset alone.
  * - No slice needs an alignment. It has no state, no heap and no locks: all it knows between two calls is in the tables. Threads may call it
  *   at once on separate tables.
  * - A call takes less than 3 KB of stack (2.6 measured), a replay less than 3.5 (3.1 measured). In a program that binds symbols lazily the
