@@ -1,7 +1,5 @@
 -- `case_heading::line_end`: the loop's place lies between the line's beginning and the file's end. Assumes nothing.
-use Prim.Native.Nat.{◌≤◌, ◌-◌}
 use native.Mathlib.Omega.{arith}
-use lib.ListN.{length}
 use Rattle.case_heading.proofs.line_end.Goals as goal
 
 pub loop-i-init : goal.loop-i-init

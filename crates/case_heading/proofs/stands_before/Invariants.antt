@@ -1,7 +1,6 @@
 -- `case_heading::stands_before`: each turn goes on behind the line that was read. Assumes nothing.
 use Prim.Native.Nat.{◌≤◌, ◌-◌}
 use lib.ListN.{length}
-use borrow.Author.Rules.{rules}
 use Rattle.case_heading.proofs.stands_before.Given as goal
 
 abbrev pub invariant-loop-at : goal.invariant-loop-at

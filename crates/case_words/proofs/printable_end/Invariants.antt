@@ -1,6 +1,5 @@
 -- `case_words::printable_end`: the loop's place lies in the text, behind where it began. Assumes nothing.
 use Prim.Native.Nat.{◌≤◌, ◌-◌}
-use native.Mathlib.Omega.{arith}
 use lib.ListN.{length}
 use Rattle.case_words.proofs.printable_end.Given as goal
 

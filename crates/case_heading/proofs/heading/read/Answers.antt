@@ -1,7 +1,6 @@
 -- `case_heading::heading::read` is safe on any line. Assumes nothing.
 use mathlib.Core.Path.{sym}
 use lib.Seq.{length-take-le}
-use borrow.Author.Rules.{rules}
 use Rattle.case_heading.proofs.heading.read.Goals as goal
 
 pub slice_bounds-behind_case-end : goal.slice_bounds-behind_case-end

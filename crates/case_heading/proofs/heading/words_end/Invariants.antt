@@ -1,8 +1,6 @@
 -- `case_heading::heading::words_end`: the loop's place lies in the line. Assumes nothing.
 use Prim.Native.Nat.{◌≤◌, ◌-◌}
-use native.Mathlib.Omega.{arith}
 use lib.ListN.{length}
-use borrow.Author.Rules.{rules}
 use Rattle.case_heading.proofs.heading.words_end.Given as goal
 
 abbrev pub invariant-loop-i : goal.invariant-loop-i
