@@ -8,6 +8,8 @@ ghost use Rattle.std.specs.Prelude.{◌≤◌, ◌<◌, ◌+◌, length};
 use case_script::{Line, fault};
 use case_telling::Run;
 use heading::Heading;
+use std::io;
+use std::io::Write;
 
 // Where the line that begins at a place ends.
 fn line_end(file: &[u8], at: usize) -> usize
@@ -68,16 +70,17 @@ fn stands_before(file: &[u8], until: usize, name: &[u8]) -> bool {
 }
 
 // A case under all the words behind `case`; none is a name too, which is told by its line.
-fn opened(run: Run, file: &[u8], at: usize, text: &[u8]) -> Run {
-    let ended = case_telling::finish(run, file);
+fn opened<W: Write>(out: &mut W, run: Run, file: &[u8], at: usize, text: &[u8]) -> io::Result<Run> {
+    let ended = case_telling::finish(out, run, file)?;
     match heading::read(text) {
-        Heading::Nothing => case_telling::begin(ended, at, 0, 0),
-        Heading::Name(from, to) => case_telling::begin(ended, at, from, to),
+        Heading::Nothing => Ok(case_telling::begin(ended, at, 0, 0)),
+        Heading::Name(from, to) => Ok(case_telling::begin(ended, at, from, to)),
     }
 }
 
 // "a bad `case` line begins a case that has failed"
-pub fn misbegun(
+pub fn misbegun<W: Write>(
+    out: &mut W,
     run: Run,
     path: &[u8],
     file: &[u8],
@@ -85,18 +88,27 @@ pub fn misbegun(
     text: &[u8],
     column: usize,
     why: u8,
-) -> Run {
-    case_telling::faulty(opened(run, file, at, text), path, column, why, 0)
+) -> io::Result<Run> {
+    let r = opened(out, run, file, at, text)?;
+    case_telling::faulty(out, r, path, column, why, 0)
 }
 
 // A case begins: its name must not be cut by a comment, and must be new in the file.
-pub fn begun(run: Run, path: &[u8], file: &[u8], at: usize, line: Line, text: &[u8]) -> Run {
-    let r = opened(run, file, at, text);
+pub fn begun<W: Write>(
+    out: &mut W,
+    run: Run,
+    path: &[u8],
+    file: &[u8],
+    at: usize,
+    line: Line,
+    text: &[u8],
+) -> io::Result<Run> {
+    let r = opened(out, run, file, at, text)?;
     if r.to != line.to {
-        return case_telling::faulty(r, path, line.to, fault::NAME_CUT, 0);
+        return case_telling::faulty(out, r, path, line.to, fault::NAME_CUT, 0);
     }
     if stands_before(file, at, case_telling::name(r, file)) {
-        return case_telling::faulty(r, path, line.from, fault::NAME_TWICE, 0);
+        return case_telling::faulty(out, r, path, line.from, fault::NAME_TWICE, 0);
     }
-    r
+    Ok(r)
 }

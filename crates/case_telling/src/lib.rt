@@ -5,6 +5,8 @@ pub mod faults;
 
 use case_rooms::{Difference, Finding};
 use case_script::Line;
+use std::io;
+use std::io::Write;
 
 // The run so far: how many cases passed and failed, the line's number, and the case that the lines are of.
 #[derive(Clone, Copy)]
@@ -64,52 +66,51 @@ pub fn next(run: Run) -> Run {
 }
 
 // Ends the line `differs NAME: ..`, if it is open.
-fn close(run: Run) -> Run {
+fn close<W: Write>(out: &mut W, run: Run) -> io::Result<Run> {
     let mut r = run;
     if r.open {
-        case_words::say(b"\n");
+        case_words::say(out, b"\n")?;
     }
     r.open = false;
-    r
+    Ok(r)
 }
 
 // The name of a case, or the line of one that has none.
-fn say_case(run: Run, name: &[u8]) {
+fn say_case<W: Write>(out: &mut W, run: Run, name: &[u8]) -> io::Result<()> {
     if name.len() == 0 {
-        case_words::say(b"line ");
-        case_words::say_number(run.first);
-        return;
+        case_words::say(out, b"line ")?;
+        return case_words::say_number(out, run.first);
     }
-    case_words::say_name(name);
+    case_words::say_name(out, name)
 }
 
-fn failed(run: Run, name: &[u8]) -> Run {
+fn failed<W: Write>(out: &mut W, run: Run, name: &[u8]) -> io::Result<Run> {
     let mut r = run;
-    case_words::say(b"failed ");
-    say_case(r, name);
-    case_words::say_failed(r.faults, r.differences);
+    case_words::say(out, b"failed ")?;
+    say_case(out, r, name)?;
+    case_words::say_failed(out, r.faults, r.differences)?;
     r.failed = more(r.failed);
-    r
+    Ok(r)
 }
 
 // A case's own line.
-fn judged(run: Run, name: &[u8]) -> Run {
+fn judged<W: Write>(out: &mut W, run: Run, name: &[u8]) -> io::Result<Run> {
     let mut r = run;
     if 0 < r.faults {
-        return failed(r, name);
+        return failed(out, r, name);
     }
     if 0 < r.differences {
         r.failed = more(r.failed);
-        return r;
+        return Ok(r);
     }
     if r.compared {
-        case_words::say(b"ok ");
-        say_case(r, name);
-        case_words::say(b"\n");
+        case_words::say(out, b"ok ")?;
+        say_case(out, r, name)?;
+        case_words::say(out, b"\n")?;
         r.passed = more(r.passed);
-        return r;
+        return Ok(r);
     }
-    failed(r, name)
+    failed(out, r, name)
 }
 
 // From one place to another.
@@ -127,29 +128,29 @@ pub fn name(run: Run, file: &[u8]) -> &[u8] {
 }
 
 // One more difference, to be told behind `differs NAME: `.
-fn opened(run: Run, name: &[u8]) -> Run {
+fn opened<W: Write>(out: &mut W, run: Run, name: &[u8]) -> io::Result<Run> {
     let mut r = run;
     if r.open {
-        case_words::say(b"; ");
+        case_words::say(out, b"; ")?;
     } else {
-        case_words::say(b"differs ");
-        say_case(r, name);
-        case_words::say(b": ");
+        case_words::say(out, b"differs ")?;
+        say_case(out, r, name)?;
+        case_words::say(out, b": ")?;
     }
     r.open = true;
     r.differences = more(r.differences);
-    r
+    Ok(r)
 }
 
 // "A call that ended with a number fails its case unless a `number` line asks for it", which stands behind it and before the next call.
-pub fn demand(run: Run, name: &[u8]) -> Run {
+pub fn demand<W: Write>(out: &mut W, run: Run, name: &[u8]) -> io::Result<Run> {
     if run.owed == 0 {
-        return run;
+        return Ok(run);
     }
-    let mut r = opened(run, name);
-    case_words::say_unasked(r.owed_line, r.owed as u64);
+    let mut r = opened(out, run, name)?;
+    case_words::say_unasked(out, r.owed_line, r.owed as u64)?;
     r.owed = 0;
-    r
+    Ok(r)
 }
 
 // A call has ended.
@@ -168,12 +169,13 @@ pub fn asked(run: Run) -> Run {
 }
 
 // Ends the case that has begun, if one has.
-pub fn finish(run: Run, file: &[u8]) -> Run {
+pub fn finish<W: Write>(out: &mut W, run: Run, file: &[u8]) -> io::Result<Run> {
     if !run.begun {
-        return close(run);
+        return close(out, run);
     }
-    let r = close(demand(run, name(run, file)));
-    judged(r, name(r, file))
+    let demanded = demand(out, run, name(run, file))?;
+    let r = close(out, demanded)?;
+    judged(out, r, name(r, file))
 }
 
 // Begins a case, whose name stands in the line at `at`.
@@ -189,25 +191,41 @@ pub fn begin(run: Run, at: usize, from: usize, to: usize) -> Run {
 }
 
 // A line that can't be read or obeyed, and the number of the limit that it went past.
-pub fn faulty(run: Run, path: &[u8], column: usize, why: u8, limit: usize) -> Run {
-    let mut r = close(run);
-    faults::say_fault(path, r.number, more(column as u64), why, limit as u64);
+pub fn faulty<W: Write>(
+    out: &mut W,
+    run: Run,
+    path: &[u8],
+    column: usize,
+    why: u8,
+    limit: usize,
+) -> io::Result<Run> {
+    let mut r = close(out, run)?;
+    let number = more(column as u64);
+    faults::say_fault(out, path, r.number, number, why, limit as u64)?;
     if r.begun {
         r.faults = more(r.faults);
-        return r;
+        return Ok(r);
     }
     r.failed = more(r.failed);
-    r
+    Ok(r)
 }
 
-fn different(run: Run, name: &[u8], line: Line, text: &[u8], d: Difference) -> Run {
-    let r = opened(run, name);
-    case_words::say_difference(line, text, r.number, d);
-    r
+fn different<W: Write>(
+    out: &mut W,
+    run: Run,
+    name: &[u8],
+    line: Line,
+    text: &[u8],
+    d: Difference,
+) -> io::Result<Run> {
+    let r = opened(out, run, name)?;
+    case_words::say_difference(out, line, text, r.number, d)?;
+    Ok(r)
 }
 
 // What a line, whose text is given, came to.
-pub fn told(
+pub fn told<W: Write>(
+    out: &mut W,
     run: Run,
     path: &[u8],
     name: &[u8],
@@ -215,18 +233,18 @@ pub fn told(
     text: &[u8],
     finding: Finding,
     limit: usize,
-) -> Run {
+) -> io::Result<Run> {
     let mut r = run;
     match finding {
-        Finding::Done => r,
+        Finding::Done => Ok(r),
         Finding::Same => {
             r.compared = true;
-            r
+            Ok(r)
         }
         Finding::Differs(d) => {
             r.compared = true;
-            different(r, name, line, text, d)
+            different(out, r, name, line, text, d)
         }
-        Finding::Fault(why) => faulty(r, path, line.from, why, limit),
+        Finding::Fault(why) => faulty(out, r, path, line.from, why, limit),
     }
 }

@@ -1,7 +1,7 @@
 -- The ways out of the functions that read a letter. Assumes nothing.
 use Prim.Native.Nat.{ℕ, ◌+◌, ◌*◌, ◌<◌, ◌≤◌}
 use Prim.Native.Char.{code}
-use mathlib.Core.Path.{◌≡◌, refl, ◌∙◌}
+use mathlib.Core.Path.{◌≡◌, refl}
 use mathlib.Core.List.{List}
 use Rattle.rules.proofs.Ladder.{eq_yes, eq_no, lt-is, lt_not}
 use Rattle.case_text.specs.declared.bytes.Run.{Run}

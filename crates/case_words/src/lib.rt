@@ -1,17 +1,21 @@
 // What is printed: names, numbers, differences.
+//
+// Each function writes to the writer that it is lent, and answers the first write that failed.
 #![tactic(auto)]
 
 ghost use Rattle.std.specs.Prelude.{◌≤◌, length};
 
 use case_rooms::Difference;
 use case_script::{Line, class, word};
+use std::io;
+use std::io::Write;
 
-pub fn say(text: &[u8]) {
-    io::write_all(libc::STDOUT_FILENO, text);
+pub fn say<W: Write>(out: &mut W, text: &[u8]) -> io::Result<()> {
+    out.write_all(text)
 }
 
-pub fn say_number(n: u64) {
-    io::print_decimal(libc::STDOUT_FILENO, n);
+pub fn say_number<W: Write>(out: &mut W, n: u64) -> io::Result<()> {
+    write!(out, "{n}")
 }
 
 fn digit(d: u8) -> u8 {
@@ -43,148 +47,143 @@ fn printable_end(text: &[u8], from: usize) -> usize
 }
 
 // The byte at a place, if there is one, as `\xNN`.
-fn say_escaped(text: &[u8], at: usize) {
+fn say_escaped<W: Write>(out: &mut W, text: &[u8], at: usize) -> io::Result<()> {
     if at < text.len() {
-        say(b"\\x");
-        say_byte(text[at]);
+        say(out, b"\\x")?;
+        say_byte(out, text[at])?;
     }
+    Ok(())
 }
 
 // A name of a case or a file, in which bytes that can not be printed are escaped.
-pub fn say_name(name: &[u8]) {
+pub fn say_name<W: Write>(out: &mut W, name: &[u8]) -> io::Result<()> {
     let mut at: usize = 0;
     while at < name.len() {
         let end = printable_end(name, at);
-        say(&name[at..end]);
-        say_escaped(name, end);
+        say(out, &name[at..end])?;
+        say_escaped(out, name, end)?;
         at = end + 1;
     }
+    Ok(())
 }
 
-fn say_byte(b: u8) {
-    say(&[digit(b / 16), digit(b % 16)]);
+fn say_byte<W: Write>(out: &mut W, b: u8) -> io::Result<()> {
+    say(out, &[digit(b / 16), digit(b % 16)])
 }
 
-fn say_word(w: u16) {
-    say_byte((w / 256) as u8);
-    say_byte((w % 256) as u8);
+fn say_word<W: Write>(out: &mut W, w: u16) -> io::Result<()> {
+    say_byte(out, (w / 256) as u8)?;
+    say_byte(out, (w % 256) as u8)
 }
 
 // An address, in four digits, or in eight.
-fn say_address(n: u32) {
+fn say_address<W: Write>(out: &mut W, n: u32) -> io::Result<()> {
     if 0xFFFF < n {
-        say_word((n / 65536) as u16);
+        say_word(out, (n / 65536) as u16)?;
     }
-    say_word((n % 65536) as u16);
-    say(b"h");
+    say_word(out, (n % 65536) as u16)?;
+    say(out, b"h")
 }
 
 // A byte, in two digits; a number that is no byte as an address.
-fn say_code(n: u32) {
+fn say_code<W: Write>(out: &mut W, n: u32) -> io::Result<()> {
     if 0xFF < n {
-        say_address(n);
-        return;
+        return say_address(out, n);
     }
-    say_byte((n % 256) as u8);
-    say(b"h");
+    say_byte(out, (n % 256) as u8)?;
+    say(out, b"h")
 }
 
 // "KEY/ASC/ASCQ"
-fn say_sense(n: u32) {
-    say_number((n / 65536) as u64);
-    say(b"/");
-    say_byte((n / 256 % 256) as u8);
-    say(b"/");
-    say_byte((n % 256) as u8);
+fn say_sense<W: Write>(out: &mut W, n: u32) -> io::Result<()> {
+    say_number(out, (n / 65536) as u64)?;
+    say(out, b"/")?;
+    say_byte(out, (n / 256 % 256) as u8)?;
+    say(out, b"/")?;
+    say_byte(out, (n % 256) as u8)
 }
 
 // "ASC/ASCQ"
-fn say_attention(n: u32) {
-    say_byte((n / 256 % 256) as u8);
-    say(b"/");
-    say_byte((n % 256) as u8);
+fn say_attention<W: Write>(out: &mut W, n: u32) -> io::Result<()> {
+    say_byte(out, (n / 256 % 256) as u8)?;
+    say(out, b"/")?;
+    say_byte(out, (n % 256) as u8)
 }
 
-fn say_value(what: u8, n: u32) {
+fn say_value<W: Write>(out: &mut W, what: u8, n: u32) -> io::Result<()> {
     if what == word::SENSE {
-        say_sense(n);
-        return;
+        return say_sense(out, n);
     }
     if what == word::ATTENTION {
-        say_attention(n);
-        return;
+        return say_attention(out, n);
     }
     if what == word::SOURCE {
-        say_address(n);
-        return;
+        return say_address(out, n);
     }
     if what == word::STATUS {
-        say_code(n);
-        return;
+        return say_code(out, n);
     }
     if what == word::MASK {
-        say_code(n);
-        return;
+        return say_code(out, n);
     }
-    say_number(n as u64);
+    say_number(out, n as u64)
 }
 
 // The word of a line, whose text is given.
-fn say_own_word(line: Line, text: &[u8]) {
+fn say_own_word<W: Write>(out: &mut W, line: Line, text: &[u8]) -> io::Result<()> {
     let from = case_rooms::least(line.from, line.to);
-    say(case_rooms::part(text, from, line.to - from));
+    say(out, case_rooms::part(text, from, line.to - from))
 }
 
 // What a line asks for: its word, and whose value that is.
-fn say_what(line: Line, text: &[u8]) {
-    say_own_word(line, text);
+fn say_what<W: Write>(out: &mut W, line: Line, text: &[u8]) -> io::Result<()> {
+    say_own_word(out, line, text)?;
     let class = class::of(line.word);
     if class == class::ELEMENT {
-        say(b" ");
-        say_address(line.first);
+        say(out, b" ")?;
+        say_address(out, line.first)?;
     }
     if class == class::RECORD {
-        say(b" ");
-        say_number(line.first as u64);
+        say(out, b" ")?;
+        say_number(out, line.first as u64)?;
     }
+    Ok(())
 }
 
 // The table whose bytes were not kept.
-fn say_kept(what: u8) {
-    say(b"kept: ");
+fn say_kept<W: Write>(out: &mut W, what: u8) -> io::Result<()> {
+    say(out, b"kept: ")?;
     if what == word::HEAD {
-        say(b"head");
-        return;
+        return say(out, b"head");
     }
     if what == word::SEARCH {
-        say(b"search");
-        return;
+        return say(out, b"search");
     }
-    say(b"elements");
+    say(out, b"elements")
 }
 
 // A table that has another length than before the call.
-fn say_length(what: u8, d: Difference) {
-    say_kept(what);
-    say(b" length ");
-    say_number(d.found as u64);
-    say(b", expected ");
-    say_number(d.expected as u64);
+fn say_length<W: Write>(out: &mut W, what: u8, d: Difference) -> io::Result<()> {
+    say_kept(out, what)?;
+    say(out, b" length ")?;
+    say_number(out, d.found as u64)?;
+    say(out, b", expected ")?;
+    say_number(out, d.expected as u64)
 }
 
 // Two bytes that differ, and where.
-fn say_bytes(line: Line, text: &[u8], d: Difference) {
+fn say_bytes<W: Write>(out: &mut W, line: Line, text: &[u8], d: Difference) -> io::Result<()> {
     if line.word == word::KEPT {
-        say_kept(d.what);
+        say_kept(out, d.what)?;
     } else {
-        say_own_word(line, text);
+        say_own_word(out, line, text)?;
     }
-    say(b" byte ");
-    say_number(d.at as u64);
-    say(b": ");
-    say_code(d.found);
-    say(b", expected ");
-    say_code(d.expected);
+    say(out, b" byte ")?;
+    say_number(out, d.at as u64)?;
+    say(out, b": ")?;
+    say_code(out, d.found)?;
+    say(out, b", expected ")?;
+    say_code(out, d.expected)
 }
 
 // Whether bytes were compared.
@@ -199,86 +198,84 @@ fn of_bytes(class: u8) -> bool {
 }
 
 // One difference, for a line with its text: `status 02h, expected 00h`, `answer byte 18: 08h, expected 09h`.
-pub fn say_difference(line: Line, text: &[u8], number: u64, d: Difference) {
-    say(b"line ");
-    say_number(number);
-    say(b": ");
+pub fn say_difference<W: Write>(
+    out: &mut W,
+    line: Line,
+    text: &[u8],
+    number: u64,
+    d: Difference,
+) -> io::Result<()> {
+    say(out, b"line ")?;
+    say_number(out, number)?;
+    say(out, b": ")?;
     let what = d.what;
     if what == word::COMMAND {
-        say(b"answer byte ");
-        say_number(d.at as u64);
-        say(b" past the count was written");
-        return;
+        say(out, b"answer byte ")?;
+        say_number(out, d.at as u64)?;
+        return say(out, b" past the count was written");
     }
     if what == word::LENGTH_HEAD {
-        say_length(word::HEAD, d);
-        return;
+        return say_length(out, word::HEAD, d);
     }
     if what == word::LENGTH_ELEMENTS {
-        say_length(word::ELEMENTS, d);
-        return;
+        return say_length(out, word::ELEMENTS, d);
     }
     if what == word::LENGTH_SEARCH {
-        say_length(word::SEARCH, d);
-        return;
+        return say_length(out, word::SEARCH, d);
     }
     if of_bytes(class::of(line.word)) {
-        say_bytes(line, text, d);
-        return;
+        return say_bytes(out, line, text, d);
     }
-    say_what(line, text);
-    say(b" ");
-    say_value(what, d.found);
-    say(b", expected ");
-    say_value(what, d.expected);
+    say_what(out, line, text)?;
+    say(out, b" ")?;
+    say_value(out, what, d.found)?;
+    say(out, b", expected ")?;
+    say_value(out, what, d.expected)
 }
 
-fn say_lines(n: u64) {
-    say_number(n);
+fn say_lines<W: Write>(out: &mut W, n: u64) -> io::Result<()> {
+    say_number(out, n)?;
     if n == 1 {
-        say(b" line could not be read");
-        return;
+        return say(out, b" line could not be read");
     }
-    say(b" lines could not be read");
+    say(out, b" lines could not be read")
 }
 
-fn say_values(n: u64) {
-    say(b", ");
-    say_number(n);
+fn say_values<W: Write>(out: &mut W, n: u64) -> io::Result<()> {
+    say(out, b", ")?;
+    say_number(out, n)?;
     if n == 1 {
-        say(b" value differs");
-        return;
+        return say(out, b" value differs");
     }
-    say(b" values differ");
+    say(out, b" values differ")
 }
 
 // Behind `failed NAME`: `: 2 lines could not be read, 1 value differs`
-pub fn say_failed(faults: u64, differences: u64) {
-    say(b": ");
+pub fn say_failed<W: Write>(out: &mut W, faults: u64, differences: u64) -> io::Result<()> {
+    say(out, b": ")?;
     if faults == 0 {
-        say(b"nothing was compared\n");
-        return;
+        return say(out, b"nothing was compared\n");
     }
-    say_lines(faults);
+    say_lines(out, faults)?;
     if 0 < differences {
-        say_values(differences);
+        say_values(out, differences)?;
     }
-    say(b"\n");
+    say(out, b"\n")
 }
 
 // A number that a call ended with, where no line asks for one.
-pub fn say_unasked(line: u64, number: u64) {
-    say(b"line ");
-    say_number(line);
-    say(b": number ");
-    say_number(number);
-    say(b", which no line asks for");
+pub fn say_unasked<W: Write>(out: &mut W, line: u64, number: u64) -> io::Result<()> {
+    say(out, b"line ")?;
+    say_number(out, line)?;
+    say(out, b": number ")?;
+    say_number(out, number)?;
+    say(out, b", which no line asks for")
 }
 
 // `N passed, M failed`
-pub fn say_counts(passed: u64, failed: u64) {
-    say_number(passed);
-    say(b" passed, ");
-    say_number(failed);
-    say(b" failed\n");
+pub fn say_counts<W: Write>(out: &mut W, passed: u64, failed: u64) -> io::Result<()> {
+    say_number(out, passed)?;
+    say(out, b" passed, ")?;
+    say_number(out, failed)?;
+    say(out, b" failed\n")
 }

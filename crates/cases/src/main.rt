@@ -3,35 +3,47 @@
 
 use case_reading::Got;
 use case_telling::Run;
+use std::env::FillError;
+use std::io;
+use std::io::Write;
+use std::rt::{Env, Files};
 
-fn run_file(run: Run, path: &[u8]) -> Run {
+fn run_file<W: Write>(files: &impl Files, out: &mut W, run: Run, path: &[u8]) -> io::Result<Run> {
     let mut file = case_reading::file_room();
-    let got = case_reading::read_whole(path, &mut file);
+    let got = case_reading::read_whole(files, path, &mut file);
     let Got::Whole(n) = got else {
-        return case_reading::missed(run, path, got);
+        return case_reading::missed(out, run, path, got);
     };
-    let last = case_lines::run_lines(run, path, case_rooms::part(&file, 0, n));
-    case_reading::ended(last, path)
+    let last = case_lines::run_lines(out, run, path, case_rooms::part(&file, 0, n))?;
+    case_reading::ended(out, last, path)
 }
 
-// The i-th argument, which is a file's name.
-fn run_argument(run: Run, i: usize) -> Run {
-    let mut path = io::buffer();
-    let k = os::arg(i, &mut path);
-    if os::errno() != 0 {
-        return case_reading::unnamed(run);
+// The i-th argument, which is a file's name; `None` behind the last argument.
+fn run_argument<W: Write>(
+    rt: &(impl Env + Files),
+    out: &mut W,
+    run: Run,
+    i: usize,
+) -> io::Result<Option<Run>> {
+    let mut path = [0u8; 4096];
+    match rt.arg(i, &mut path) {
+        Ok(k) => Ok(Some(run_file(rt, out, run, &path[..k])?)),
+        Err(FillError::TooLong) => Ok(Some(case_reading::unnamed(out, run)?)),
+        Err(FillError::NotPresent) => Ok(None),
     }
-    run_file(run, &path[..k])
 }
 
 // The arguments from the second on; the first is the program's own name.
-fn main() {
-    let n = os::arg_count();
+fn main(rt: HostRuntime) -> io::Result<()> {
+    let mut out = io::writer(&rt);
     let mut run = case_telling::start(0, 0);
-    let mut i: usize = 1;
-    while i < n {
-        run = run_argument(run, i);
-        i += 1;
+    let mut n: usize = 1;
+    for i in 1..usize::MAX {
+        let Some(next) = run_argument(&rt, &mut out, run, i)? else {
+            break;
+        };
+        run = next;
+        n = i + 1;
     }
-    case_reading::say_end(n, run);
+    case_reading::say_end(&mut out, n, run)
 }

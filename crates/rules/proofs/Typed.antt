@@ -10,7 +10,7 @@ use borrow.Author.Tests.{eqb-false, eqb-true, ne_eqb}
 use Rattle.rules.specs.Choice.{when}
 use Rattle.rules.specs.Roster.{Range, Slot, range, ranges, slots, spread, insert, sorted, roster, kind_of, place_of}
 use Rattle.rules.specs.Ranges.{Each, Pairs}
-use Rattle.rules.specs.Sound.{behind, ranges_sound}
+use Rattle.rules.specs.Sound.{ranges_sound}
 use Rattle.rules.proofs.Ladder.{on}
 use Rattle.rules.proofs.Ascending.{Before, ascending}
 

@@ -1,5 +1,5 @@
 -- "Wrong cartridge, wrong drive": which drive takes which volume. Assumes nothing.
-use Rattle.std.specs.Prelude.{ℕ, ◌-◌, ◌/◌, ◌%◌, ◌^◌, List, [], ◌∷◌, Bool, not, eqb}
+use Rattle.std.specs.Prelude.{ℕ, ◌-◌, ◌/◌, ◌%◌, ◌^◌, [], ◌∷◌, Bool, not, eqb}
 use Rattle.rules.specs.Choice.{any_of, all_of}
 use Rattle.rules.specs.Bytes.{byte}
 use Rattle.rules.specs.Tables.{Tables, Rest}

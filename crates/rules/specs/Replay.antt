@@ -1,10 +1,10 @@
 -- "Replay of the day's log": what a line does to tables, and all that a call of replay ends with. Assumes nothing.
-use Rattle.std.specs.Prelude.{ℕ, zero, suc, ◌+◌, List, [], ◌∷◌, Bool, true, false, length, eqb, ltb}
+use Rattle.std.specs.Prelude.{ℕ, zero, suc, ◌+◌, List, Bool, true, false, length, eqb, ltb}
 use Rattle.rules.specs.Choice.{when}
 use Rattle.rules.specs.Tables.{Tables}
 use Rattle.rules.specs.Sound.{sound}
 use Rattle.rules.specs.Order.{Verdict, Number, after}
-use Rattle.rules.specs.Command.{Request, Call, Command, Import, Export, Reset, after_numbers, steps, verdict}
+use Rattle.rules.specs.Command.{Call, Command, Import, Export, Reset, after_numbers, steps, verdict}
 use Rattle.rules.specs.Log.{LINE-FEED, first_of, before, beyond, Line, Other, Entry, line_of}
 
 -- ---- one line on tables

@@ -33,6 +33,7 @@ past r s a b e = let l = lies-from r a e in sym (all-le-stop s.first a _ (omega 
 module _ (s : Range) (is : s.kind ≡ storage) where
   shelf-lies : (rs : List Range) (q a : ℕ) → Among s rs → Pairs Before rs → Pairs Differ rs → eqb (kind_of (spread q rs) a) storage ≡ lies s a
   unfolding spread when
+  shelf-lies [] q a m b d = elim m [ ]
   shelf-lies (r ∷ rs) q a (inl e) b d = rw (kind-run r q a (spread (q + r.count) rs), e) (go (lies r a))
     where
       shelf : r.kind ≡ storage

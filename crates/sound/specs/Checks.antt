@@ -1,5 +1,5 @@
 -- What the parts of the check are handed, and what they tell of the part of a table that they look at. Assumes nothing.
-use Rattle.std.specs.Prelude.{◌≡◌, ℕ, zero, suc, ◌+◌, ◌-◌, ◌*◌, ◌/◌, ◌%◌, ◌^◌, ◌<◌, ◌≤◌, Bool, true, not, List, [], ◌∷◌, length, set, ◌==◌, bit_or, nat_le, slice_index, slice_set}
+use Rattle.std.specs.Prelude.{◌≡◌, ℕ, zero, suc, ◌+◌, ◌-◌, ◌*◌, ◌/◌, ◌%◌, ◌^◌, ◌<◌, ◌≤◌, Bool, true, not, List, [], ◌∷◌, length, ◌==◌, bit_or, nat_le, slice_index, slice_set}
 use Rattle.rules.specs.Choice.{when, any_of, all_of, differ, below}
 use Rattle.rules.specs.Bytes.{byte}
 use Rattle.rules.specs.Tables.{element_size, behind_last, search_type, next_address, volume, source, mark, holder, id, zero_byte, empty_shelves}

@@ -4,7 +4,7 @@ use Rattle.rules.specs.Choice.{when, all_of, differ}
 use Rattle.rules.specs.Ranges.{total}
 use Rattle.rules.proofs.Places.{spread-length}
 use Rattle.rules.proofs.Ladder.{ne-differ, test-is}
-use Rattle.rules.specs.Roster.{Range, Slot, range, slots, spread, roster, kind_at, first_transport, transport}
+use Rattle.rules.specs.Roster.{Range, Slot, slots, spread, roster, kind_at, first_transport, transport}
 use Rattle.tables.specs.declared.Range.{Range as Code}
 use Rattle.tables.specs.Ranges.{meaning, meant, laid, leads, Runs}
 use Rattle.tables.proofs.Sort.{none, on-four}

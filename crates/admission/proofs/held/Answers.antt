@@ -2,7 +2,6 @@
 use mathlib.Core.Path.{sym, ap, ◌∙◌}
 use Rattle.rules.specs.Order.{other}
 use Rattle.admission.specs.Admitting.{held, held_in}
-use borrow.Author.Rules.{rules}
 use Rattle.admission.proofs.held.Goals as goal
 
 pub returns-in-Nothing : goal.returns-in-Nothing

@@ -3,7 +3,6 @@ use mathlib.Core.Path.{ap}
 use Rattle.rules.proofs.Ladder.{ladder, no, eq_no}
 use Rattle.admission.specs.declared.Admission.TheVariants.{Faulty}
 use Rattle.admission.specs.Admitting.{admission}
-use borrow.Author.Rules.{rules}
 use Rattle.admission.proofs.judge.Goals as goal
 
 pub returns-then-pending : goal.returns-then-pending

@@ -1,7 +1,6 @@
 -- `admission::meets_attention` meets its contract. Assumes nothing.
 use Rattle.operation.specs.Meaning.{meaning}
 use Rattle.admission.specs.Admitting.{meets_attention}
-use borrow.Author.Rules.{rules}
 use Rattle.admission.proofs.meets_attention.Goals as goal
 
 pub returns-in-TestUnitReady : goal.returns-in-TestUnitReady

@@ -3,7 +3,6 @@ use mathlib.Core.Path.{ap, ◌∙◌}
 use Rattle.rules.specs.Order.{other}
 use Rattle.rules.proofs.Rungs.{hit, pass, only}
 use Rattle.admission.specs.Admitting.{others_hold}
-use borrow.Author.Rules.{rules}
 use Rattle.admission.proofs.others_hold.Goals as goal
 
 pub returns-then-other : goal.returns-then-other

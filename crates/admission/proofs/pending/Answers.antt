@@ -3,7 +3,6 @@ use mathlib.Core.Path.{refl}
 use Rattle.rules.specs.Choice.{differ}
 use Rattle.rules.proofs.Ladder.{yes, no}
 use Rattle.admission.specs.Admitting.{pending}
-use borrow.Author.Rules.{rules}
 use Rattle.admission.proofs.pending.Goals as goal
 
 pub returns-then-meets_attention : goal.returns-then-meets_attention

@@ -1,7 +1,6 @@
 -- `admission::reach_of` meets its contract. Assumes nothing.
 use Rattle.operation.specs.Meaning.{meaning}
 use Rattle.admission.specs.Admitting.{reach_of}
-use borrow.Author.Rules.{rules}
 use Rattle.admission.proofs.reach_of.Goals as goal
 
 pub returns-in-TestUnitReady : goal.returns-in-TestUnitReady

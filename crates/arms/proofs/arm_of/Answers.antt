@@ -1,6 +1,5 @@
 -- `arms::arm_of` meets its contract. Assumes nothing.
 use mathlib.Core.Path.{refl}
-use borrow.Author.Rules.{rules}
 use Rattle.rules.proofs.Ladder.{eq_is}
 use Rattle.tables.proofs.LookUp.{found-by}
 use Rattle.arms.specs.Used.{arm_at}

@@ -1,7 +1,6 @@
 -- `arms::first_choice` meets its contract. Assumes nothing.
 use mathlib.Core.Path.{refl}
 use Rattle.rules.proofs.Ladder.{eq_is, eq-not}
-use borrow.Author.Rules.{rules}
 use Rattle.arms.proofs.first_choice.Goals as goal
 
 pub returns-then-address-eq0 : goal.returns-then-address-eq0

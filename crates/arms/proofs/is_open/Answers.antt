@@ -1,5 +1,4 @@
 -- `arms::is_open` meets its contract. Assumes nothing.
-use borrow.Author.Rules.{rules}
 use Rattle.arms.proofs.Open.{open-at, open_none, told_at}
 use Rattle.arms.proofs.is_open.Goals as goal
 

@@ -1,5 +1,4 @@
 -- `arms::open_arm` meets its contract. Assumes nothing.
-use borrow.Author.Rules.{rules}
 use Rattle.tables.proofs.LookUp.{found-by}
 use Rattle.arms.proofs.open_arm.Goals as goal
 

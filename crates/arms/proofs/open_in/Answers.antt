@@ -1,7 +1,7 @@
 -- `arms::open_in`: at the loop's head all but the last `left` are held by other hosts. Assumes nothing.
 use borrow.Author.Rules.{rules}
 use Rattle.rules.specs.Tables.{places}
-use Rattle.arms.proofs.Open.{Held, none_in, held_none, held_found, held_on, held_all}
+use Rattle.arms.proofs.Open.{none_in, held_none, held_found, held_on, held_all}
 use Rattle.arms.proofs.open_in.Goals as goal
 
 pub returns-then-r-ne-TRANSPORT : goal.returns-then-r-ne-TRANSPORT

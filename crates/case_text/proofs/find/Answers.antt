@@ -1,10 +1,7 @@
 -- `case_text::find` meets its contract. Assumes nothing.
 use borrow.Author.Rules.{rules}
-use mathlib.Core.Path.{◌≡◌, refl, sym, ◌∙◌}
-use Prim.Native.Nat.{◌≤◌, ◌-◌}
+use mathlib.Core.Path.{refl, sym, ◌∙◌}
 use native.Mathlib.Omega.{arith}
-use lib.ListN.{length}
-use Rattle.case_text.specs.Text.{first}
 use Rattle.case_text.proofs.Searching.{first-here, first_on, first-end}
 use Rattle.case_text.proofs.find.Goals as goal
 

@@ -1,11 +1,8 @@
 -- `case_text::find` meets its contract. Assumes nothing.
-use borrow.Author.Rules.{rules}
-use mathlib.Core.Path.{◌≡◌, refl, sym, ◌∙◌}
+use mathlib.Core.Path.{◌≡◌}
 use Prim.Native.Nat.{◌≤◌, ◌-◌}
-use native.Mathlib.Omega.{arith}
 use lib.ListN.{length}
 use Rattle.case_text.specs.Text.{first}
-use Rattle.case_text.proofs.Searching.{first-here, first_on, first-end}
 use Rattle.case_text.proofs.find.Given as goal
 
 abbrev pub invariant-loop-i : goal.invariant-loop-i

@@ -1,7 +1,6 @@
 -- `case_text::is_break` meets its contract. Assumes nothing.
 use Rattle.case_text.specs.Text.{break}
 use Rattle.rules.proofs.Ladder.{ladder}
-use borrow.Author.Rules.{rules}
 use Rattle.case_text.proofs.is_break.Goals as goal
 
 pub returns-then-b-eq47 : goal.returns-then-b-eq47

@@ -1,11 +1,8 @@
 -- `case_text::same` meets its contract. Assumes nothing.
-use borrow.Author.Rules.{rules}
-use mathlib.Core.Path.{◌≡◌, refl, sym, ◌∙◌}
+use mathlib.Core.Path.{◌≡◌}
 use Prim.Native.Nat.{◌≤◌, ◌-◌}
-use native.Mathlib.Omega.{arith}
 use lib.ListN.{length, drop}
 use Rattle.case_text.specs.Text.{same_word}
-use Rattle.case_text.proofs.Searching.{same-long, same_not, same-on, same_end}
 use Rattle.case_text.proofs.same.Given as goal
 
 abbrev pub invariant-loop-i : goal.invariant-loop-i

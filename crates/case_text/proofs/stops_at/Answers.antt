@@ -3,7 +3,6 @@ use mathlib.Core.Path.{ap}
 use mathlib.Core.Bool.{not}
 use Rattle.case_text.specs.Text.{stops}
 use Rattle.rules.proofs.Ladder.{ladder, eq_is, eq-not}
-use borrow.Author.Rules.{rules}
 use Rattle.case_text.proofs.stops_at.Goals as goal
 
 pub returns-then-what-eq-HASH : goal.returns-then-what-eq-HASH

@@ -1,8 +1,7 @@
 -- `events::announce` meets its contract. Assumes nothing.
-use Prim.Native.Nat.{◌+◌, ◌-◌, ◌≤◌}
 use native.Mathlib.Omega.{arith}
-use Rattle.rules.proofs.Loops.{Turned, turned_none, turned_more, turned-all}
-use Rattle.rules.specs.Tables.{hosts, announced_to, announced}
+use Rattle.rules.proofs.Loops.{turned_none, turned_more, turned-all}
+use Rattle.rules.specs.Tables.{hosts, announced}
 use Rattle.events.proofs.announce.Goals as goal
 
 pub loop-host-init : goal.loop-host-init

@@ -2,7 +2,6 @@
 use mathlib.Core.Path.{refl}
 use Rattle.rules.specs.Tables.{announced_to}
 use Rattle.rules.proofs.Ladder.{eq_yes, eq_no}
-use borrow.Author.Rules.{rules}
 use Rattle.events.proofs.announce_to.Goals as goal
 
 pub returns-then-attention-eq0 : goal.returns-then-attention-eq0

@@ -5,7 +5,6 @@ use Rattle.rules.specs.Tables.{places, changes, change, in_head, in_elements}
 use Rattle.rules.specs.Order.{outcome}
 use Rattle.rules.specs.Events.{done}
 use Rattle.ports.specs.Judged.{meaning}
-use borrow.Author.Rules.{rules}
 use Rattle.events.proofs.carry_out.Goals as goal
 
 pub fill-requires : goal.fill-requires

@@ -1,6 +1,5 @@
 -- `events::reset` meets its contract. Assumes nothing.
 use Rattle.events.proofs.Resets.{reset-ends}
-use borrow.Author.Rules.{rules}
 use Rattle.events.proofs.reset.Goals as goal
 
 pub returns : goal.returns

@@ -1,10 +1,8 @@
 -- `events::restart` meets its contract. Assumes nothing.
 use Prim.Native.Nat.{◌+◌, ◌-◌, ◌≤◌}
-use native.Mathlib.Omega.{arith}
-use Rattle.rules.proofs.Loops.{Turned, turned_none, turned_more, turned-all}
+use Rattle.rules.proofs.Loops.{Turned}
 use Rattle.rules.specs.Tables.{hosts}
 use Rattle.events.specs.Restarted.{restarted_at}
-use Rattle.events.proofs.Resets.{restarted-is}
 use Rattle.events.proofs.restart.Given as goal
 
 abbrev pub invariant-loop-host : goal.invariant-loop-host

@@ -3,7 +3,6 @@ use mathlib.Core.Path.{◌∙◌}
 use Rattle.rules.specs.Tables.{changes, change, in_head}
 use Rattle.rules.specs.Events.{restarted_from}
 use Rattle.events.specs.Restarted.{restarted_at}
-use borrow.Author.Rules.{rules}
 use Rattle.events.proofs.restart_host.Goals as goal
 
 pub returns : goal.returns

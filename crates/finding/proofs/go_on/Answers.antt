@@ -6,7 +6,6 @@ use lib.ListN.{length-replicate}
 use Rattle.rules.specs.Bytes.{byte}
 use Rattle.rules.specs.Tables.{lent, searching, action, next_address}
 use Rattle.finding.proofs.Ends.{fresh, goes_on}
-use borrow.Author.Rules.{rules}
 use Rattle.finding.proofs.go_on.Goals as goal
 
 pub mark_found-requires : goal.mark_found-requires
@@ -18,7 +17,10 @@ pub passed-next-requires : goal.passed-next-requires
 unfolding next_address
 passed-next-requires c =
     let s = c.requires in
-    ((c.query_of-q.ensures.start_bound, (omega (arith, c.word_at-most.type-inv), omega (arith, c.triple_at-from.ensures, s.near))), s.inside)
+    record {
+      start_bound = (c.query_of-q.ensures.start_bound, (omega (arith, c.word_at-most.type_inv), omega (arith, c.triple_at-from.ensures, s.near)));
+      each = s.inside;
+    }
 
 pub returns : goal.returns
 unfolding action next_address byte

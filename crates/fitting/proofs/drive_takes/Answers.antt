@@ -1,6 +1,5 @@
 -- `fitting::drive_takes` meets its contract. Assumes nothing.
 use Rattle.fitting.proofs.Bit.{taken-by}
-use borrow.Author.Rules.{rules}
 use Rattle.fitting.proofs.drive_takes.Goals as goal
 
 pub returns : goal.returns

@@ -3,7 +3,6 @@ use Rattle.rules.specs.Bytes.{byte}
 use Rattle.rules.specs.Search.{action_code, known_action}
 use Rattle.rules.specs.Form.{action_fault}
 use Rattle.rules.proofs.Ladder.{ladder}
-use borrow.Author.Rules.{rules}
 use Rattle.form.proofs.action_fault.Goals as goal
 
 pub returns-then-action-eq-IN_RANGE : goal.returns-then-action-eq-IN_RANGE

@@ -6,7 +6,6 @@ use Rattle.rules.specs.Form.{unused, stray, stray_from, own_fault, lower, fault}
 use Rattle.operation.specs.Meaning.{meaning}
 use Rattle.operation.proofs.Lengths.{sized}
 use Rattle.form.proofs.Lowest.{lower-none, lower_by}
-use borrow.Author.Rules.{rules}
 use Rattle.form.proofs.fault.Goals as goal
 
 pub stray-requires : goal.stray-requires

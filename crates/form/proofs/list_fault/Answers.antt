@@ -3,7 +3,6 @@ use Rattle.rules.specs.Bytes.{byte}
 use Rattle.rules.specs.Holds.{of_unit}
 use Rattle.rules.specs.Form.{own_fault}
 use Rattle.rules.proofs.Ladder.{ladder}
-use borrow.Author.Rules.{rules}
 use Rattle.form.proofs.list_fault.Goals as goal
 
 pub returns-then-list-ne0 : goal.returns-then-list-ne0

@@ -2,7 +2,6 @@
 use mathlib.Core.Path.{refl}
 use Rattle.rules.specs.Form.{own_fault}
 use Rattle.rules.proofs.Ladder.{yes, no}
-use borrow.Author.Rules.{rules}
 use Rattle.form.proofs.page_fault.Goals as goal
 
 pub returns-then-no_answer : goal.returns-then-no_answer

@@ -1,7 +1,6 @@
 -- `form::stray` meets its contract: the loop's invariant is that the masks passed found nothing. Assumes nothing.
-use Prim.Native.Nat.{◌-◌}
 use native.Mathlib.Omega.{arith}
-use Rattle.form.proofs.Strays.{Passing, start, found, passed, finish}
+use Rattle.form.proofs.Strays.{start, found, passed, finish}
 use Rattle.form.proofs.stray.Goals as goal
 
 pub loop-i-init : goal.loop-i-init

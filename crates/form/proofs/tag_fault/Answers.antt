@@ -1,7 +1,6 @@
 -- `form::tag_fault` meets its contract. Assumes nothing.
 use Rattle.rules.specs.Form.{own_fault}
 use Rattle.form.proofs.Lowest.{lower_by}
-use borrow.Author.Rules.{rules}
 use Rattle.form.proofs.tag_fault.Goals as goal
 
 pub returns : goal.returns

@@ -4,7 +4,6 @@ use Rattle.rules.specs.Bytes.{byte}
 use Rattle.rules.specs.Listing.{type_code}
 use Rattle.rules.specs.Form.{type_fault}
 use Rattle.rules.proofs.Ladder.{lt-is, lt_not}
-use borrow.Author.Rules.{rules}
 use Rattle.form.proofs.type_fault.Goals as goal
 
 pub returns-then-block-gt-DRIVE : goal.returns-then-block-gt-DRIVE

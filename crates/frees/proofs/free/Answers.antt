@@ -1,10 +1,8 @@
 -- `frees::free` meets its contract. Assumes nothing.
-use Prim.Native.Nat.{◌≤◌, ◌-◌}
 use native.Mathlib.Omega.{arith}
 use borrow.Author.Rules.{rules}
-use Rattle.rules.proofs.Loops.{Turned, turned_none, turned_more, turned-all}
-use Rattle.rules.specs.Tables.{places, freed_at, freed}
-use Rattle.frees.specs.Freed.{whose}
+use Rattle.rules.proofs.Loops.{turned_none, turned_more, turned-all}
+use Rattle.rules.specs.Tables.{places, freed}
 use Rattle.frees.proofs.free.Goals as goal
 
 pub loop-p-init : goal.loop-p-init

@@ -1,9 +1,7 @@
 -- `frees::free` meets its contract. Assumes nothing.
 use Prim.Native.Nat.{◌≤◌, ◌-◌}
-use native.Mathlib.Omega.{arith}
-use borrow.Author.Rules.{rules}
-use Rattle.rules.proofs.Loops.{Turned, turned_none, turned_more, turned-all}
-use Rattle.rules.specs.Tables.{places, freed_at, freed}
+use Rattle.rules.proofs.Loops.{Turned}
+use Rattle.rules.specs.Tables.{freed_at}
 use Rattle.frees.specs.Freed.{whose}
 use Rattle.frees.proofs.free.Given as goal
 

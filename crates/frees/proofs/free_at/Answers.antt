@@ -1,5 +1,4 @@
 -- `frees::free_at` meets its contract. Assumes nothing.
-use borrow.Author.Rules.{rules}
 use Rattle.frees.proofs.Elements.{freed-there, freed-not}
 use Rattle.frees.proofs.free_at.Goals as goal
 

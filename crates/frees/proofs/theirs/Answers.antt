@@ -1,5 +1,4 @@
 -- `frees::theirs` meets its contract. Assumes nothing.
-use borrow.Author.Rules.{rules}
 use Rattle.rules.proofs.Rungs.{as-choice, last-of-all}
 use Rattle.rules.specs.Tables.{theirs}
 use Rattle.rules.proofs.Ladder.{ladder}

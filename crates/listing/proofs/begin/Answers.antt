@@ -1,5 +1,4 @@
 -- `listing::begin` meets its contract. Assumes nothing.
-use borrow.Author.Rules.{rules}
 use Rattle.listing.proofs.begin.Goals as goal
 
 pub returns : goal.returns

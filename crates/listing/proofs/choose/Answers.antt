@@ -3,7 +3,6 @@ use mathlib.Core.Path.{sym, ◌∙◌}
 use native.Mathlib.Omega.{arith}
 use Rattle.tables.specs.Ranges.{meaning}
 use Rattle.listing.proofs.Parts.{picked-few, some_one, none-part}
-use borrow.Author.Rules.{rules}
 use Rattle.listing.proofs.choose.Goals as goal
 
 pub returns-then-n-eq0 : goal.returns-then-n-eq0

@@ -1,19 +1,15 @@
 -- `listing::count` meets its contract: at the loop's head, the ranges from here on count to what all of them count to. Assumes nothing.
 use mathlib.Core.Path.{◌≡◌, ◌∙◌}
 use native.Mathlib.Omega.{arith}
-use Prim.Native.Nat.{◌-◌}
 use lib.ListN.{length}
 use borrow.Author.Rules.{rules}
 use Rattle.listing.proofs.Parts.{part_small, step_is}
 use Rattle.listing.proofs.Counted.{within-later}
-use Rattle.listing.proofs.Stages.{Counting, counting-begins, counting-here, counting-on, counting-ends}
+use Rattle.listing.proofs.Stages.{counting-begins, counting-here, counting-on, counting-ends}
 use Rattle.listing.proofs.count.Goals as goal
 
 pub loop-k-init : goal.loop-k-init
 loop-k-init c = counting-begins _ _ _ _ c.requires.start_bound.1 c.requires.within
-
-pub offset_bounds-rs-k : goal.offset_bounds-rs-k
-offset_bounds-rs-k c = omega arith
 
 pub bounds-rs-k : goal.bounds-rs-k
 bounds-rs-k c = c.loop-k-test.true
@@ -33,12 +29,6 @@ step-x-requires c =
         rw c.choose.ensures (part_small _ c.args.q _ _ (counting-here _ _ _ _ _ _ _ l.invariant (omega arith)) l.invariant.within.sum),
       );
     }
-
-pub overflow_add-k : goal.overflow_add-k
-overflow_add-k c = omega arith
-
-pub loop-k-smaller : goal.loop-k-smaller
-loop-k-smaller c = omega arith
 
 pub loop-k-preserved : goal.loop-k-preserved
 loop-k-preserved c =

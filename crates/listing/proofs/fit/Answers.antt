@@ -6,7 +6,6 @@ use borrow.Author.Tests.{lt-ltb}
 use Rattle.listing.specs.Plan.{fits_in}
 use Rattle.pages.proofs.Descriptor.{width_few}
 use Rattle.listing.proofs.Fitting.{fits_whole, fits-part}
-use borrow.Author.Rules.{rules}
 use Rattle.listing.proofs.fit.Goals as goal
 
 pub overflow_add-w : goal.overflow_add-w

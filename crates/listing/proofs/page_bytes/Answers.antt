@@ -4,7 +4,6 @@ use Rattle.rules.specs.Choice.{when}
 use borrow.Author.Tests.{eq-eqb, ne_eqb}
 use Rattle.pages.specs.Pages.{page_bytes}
 use Rattle.pages.proofs.Descriptor.{times-width}
-use borrow.Author.Rules.{rules}
 use Rattle.listing.proofs.page_bytes.Goals as goal
 
 pub returns-then-m-eq0 : goal.returns-then-m-eq0

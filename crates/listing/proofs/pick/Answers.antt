@@ -3,7 +3,6 @@ use mathlib.Core.Path.{sym, ◌∙◌}
 use native.Mathlib.Omega.{arith}
 use Rattle.tables.specs.Ranges.{meaning}
 use Rattle.listing.proofs.Parts.{picks-suited, picks-unsuited}
-use borrow.Author.Rules.{rules}
 use Rattle.listing.proofs.pick.Goals as goal
 
 pub count-requires : goal.count-requires

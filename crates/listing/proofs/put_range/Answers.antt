@@ -10,7 +10,6 @@ use Rattle.listing.specs.Counting.{step_of, step_bytes, fitting_at, chosen_at}
 use Rattle.listing.proofs.Counted.{counts-few}
 use Rattle.listing.proofs.Fitting.{fit_is}
 use Rattle.listing.proofs.Parts.{picked-run, told-inside}
-use borrow.Author.Rules.{rules}
 use Rattle.listing.proofs.put_range.Goals as goal
 
 pub returns-then-m-eq0 : goal.returns-then-m-eq0

@@ -1,13 +1,11 @@
 -- `listing::put_ranges` meets its contract: at the loop's head, what the ranges from here on add makes up what all of them add. Assumes nothing.
 use mathlib.Core.Path.{◌≡◌, ◌∙◌}
 use native.Mathlib.Omega.{arith}
-use Prim.Native.Nat.{◌-◌}
 use lib.ListN.{length}
 use borrow.Author.Rules.{rules}
-use Rattle.pages.specs.Pages.{stock}
 use Rattle.listing.proofs.Parts.{part_small, step_is}
 use Rattle.listing.proofs.Counted.{within-later, write-nothing}
-use Rattle.listing.proofs.Stages.{Writing, writing_begins, writing-inside, writing-room, writing-stands, writing-on, writing-ends}
+use Rattle.listing.proofs.Stages.{writing_begins, writing-inside, writing-room, writing-stands, writing-on, writing-ends}
 use Rattle.listing.proofs.put_ranges.Goals as goal
 
 pub returns-then-s-eq0 : goal.returns-then-s-eq0
@@ -17,9 +15,6 @@ returns-then-s-eq0 c =
 pub loop-k-init : goal.loop-k-init
 loop-k-init c =
     writing_begins _ _ _ _ _ _ c.requires.rs_in_bounds c.requires.rs_in_bounds_2 c.requires.start_bound.1.0 c.requires.start_bound.1.1
-
-pub offset_bounds-rs-k : goal.offset_bounds-rs-k
-offset_bounds-rs-k c = omega arith
 
 pub bounds-rs-k : goal.bounds-rs-k
 bounds-rs-k c = c.loop-k-test.true
@@ -52,12 +47,6 @@ step-x-requires c =
         rw c.choose-p.ensures (part_small _ c.args.q _ _ (writing-inside _ _ _ ok _ _ _ _ _ _ _ l.invariant (omega arith)) l.invariant.within.sum),
       );
     }
-
-pub overflow_add-k : goal.overflow_add-k
-overflow_add-k c = omega arith
-
-pub loop-k-smaller : goal.loop-k-smaller
-loop-k-smaller c = omega arith
 
 pub loop-k-preserved : goal.loop-k-preserved
 loop-k-preserved c =

@@ -1,13 +1,7 @@
 -- `listing::put_ranges` meets its contract: at the loop's head, what the ranges from here on add makes up what all of them add. Assumes nothing.
-use mathlib.Core.Path.{◌≡◌, ◌∙◌}
-use native.Mathlib.Omega.{arith}
 use Prim.Native.Nat.{◌-◌}
-use lib.ListN.{length}
-use borrow.Author.Rules.{rules}
 use Rattle.pages.specs.Pages.{stock}
-use Rattle.listing.proofs.Parts.{part_small, step_is}
-use Rattle.listing.proofs.Counted.{within-later, write-nothing}
-use Rattle.listing.proofs.Stages.{Writing, writing_begins, writing-inside, writing-room, writing-stands, writing-on, writing-ends}
+use Rattle.listing.proofs.Stages.{Writing}
 use Rattle.listing.proofs.put_ranges.Given as goal
 
 abbrev pub invariant-loop-k : goal.invariant-loop-k

@@ -2,7 +2,6 @@
 use native.Mathlib.Omega.{arith}
 use Rattle.rules.specs.Bytes.{byte}
 use Rattle.rules.specs.Listing.{with_tags, type_code}
-use borrow.Author.Rules.{rules}
 use Rattle.listing.proofs.query_of.Goals as goal
 
 pub returns : goal.returns

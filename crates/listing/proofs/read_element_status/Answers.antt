@@ -5,7 +5,6 @@ use Rattle.tables.specs.Ranges.{meant}
 use Rattle.pages.specs.Pages.{stock}
 use Rattle.listing.specs.Counting.{Answers, asked, listed}
 use Rattle.listing.proofs.Ends.{ends-good, ends-refused}
-use borrow.Author.Rules.{rules}
 use Rattle.listing.proofs.read_element_status.Goals as goal
 
 pub returns-then-number-ne0 : goal.returns-then-number-ne0

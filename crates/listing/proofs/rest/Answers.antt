@@ -2,7 +2,6 @@
 use Rattle.rules.specs.Choice.{when}
 use borrow.Author.Tests.{eq-eqb, ne_eqb}
 use Rattle.listing.specs.Plan.{room_behind}
-use borrow.Author.Rules.{rules}
 use Rattle.listing.proofs.rest.Goals as goal
 
 pub returns-then-m-n : goal.returns-then-m-n

@@ -6,7 +6,6 @@ use lib.Seq.{length-take-le}
 use Rattle.rules.specs.Bytes.{cut}
 use Rattle.pages.proofs.Lent.{put_whole}
 use Rattle.listing.proofs.Whole.{header_at, header-length, header-cut, header-cut-length, answers-told, answers-refused}
-use borrow.Author.Rules.{rules}
 use Rattle.listing.proofs.shortened.Goals as goal
 
 pub returns-then-answer-n : goal.returns-then-answer-n

@@ -2,7 +2,6 @@
 use native.Mathlib.Omega.{arith}
 use Rattle.listing.specs.Counting.{step_by}
 use Rattle.pages.proofs.Descriptor.{page-bytes-few}
-use borrow.Author.Rules.{rules}
 use Rattle.listing.proofs.step.Goals as goal
 
 pub overflow_add-result-2 : goal.overflow_add-result-2

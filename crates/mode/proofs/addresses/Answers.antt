@@ -3,7 +3,6 @@ use native.Mathlib.Omega.{arith}
 use Rattle.rules.proofs.Writes.{put_then}
 use Rattle.rules.specs.Roster.{ranges}
 use Rattle.rules.specs.Mode.{paged, assigned, assignments}
-use borrow.Author.Rules.{rules}
 use Rattle.mode.proofs.addresses.Goals as goal
 
 pub returns : goal.returns

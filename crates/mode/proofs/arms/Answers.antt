@@ -1,9 +1,7 @@
 -- `mode::arms` meets its contract. Assumes nothing.
 use mathlib.Core.Path.{◌≡◌, sym, ap, ◌∙◌}
 use native.Mathlib.Omega.{arith}
-use Prim.Native.Nat.{◌-◌, ◌≤◌}
 use lib.ListN.{length}
-use Rattle.rules.specs.Bytes.{put}
 use Rattle.rules.specs.Mode.{members}
 use Rattle.rules.proofs.Writes.{put-length, put-nothing, put_then}
 use Rattle.mode.proofs.Pages.{members-length, members-more}
@@ -27,9 +25,6 @@ put_two-requires c = let e = ap length c.loop-i.invariant.0 ∙ put-length _ _ _
 
 pub overflow_add-i : goal.overflow_add-i
 overflow_add-i c = omega (arith, c.requires.1)
-
-pub loop-i-smaller : goal.loop-i-smaller
-loop-i-smaller c = omega arith
 
 pub loop-i-preserved : goal.loop-i-preserved
 loop-i-preserved c =

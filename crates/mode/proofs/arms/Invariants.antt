@@ -1,12 +1,8 @@
 -- `mode::arms` meets its contract. Assumes nothing.
-use mathlib.Core.Path.{◌≡◌, sym, ap, ◌∙◌}
-use native.Mathlib.Omega.{arith}
+use mathlib.Core.Path.{◌≡◌}
 use Prim.Native.Nat.{◌-◌, ◌≤◌}
-use lib.ListN.{length}
 use Rattle.rules.specs.Bytes.{put}
 use Rattle.rules.specs.Mode.{members}
-use Rattle.rules.proofs.Writes.{put-length, put-nothing, put_then}
-use Rattle.mode.proofs.Pages.{members-length, members-more}
 use Rattle.mode.proofs.arms.Given as goal
 
 abbrev pub invariant-loop-i : goal.invariant-loop-i

@@ -3,7 +3,6 @@ use native.Mathlib.Omega.{arith}
 use Rattle.rules.proofs.Writes.{put_then}
 use Rattle.rules.specs.Roster.{range}
 use Rattle.rules.specs.Mode.{assigned}
-use borrow.Author.Rules.{rules}
 use Rattle.mode.proofs.assign.Goals as goal
 
 pub returns : goal.returns

@@ -1,7 +1,6 @@
 -- `mode::bytes_of` meets its contract. Assumes nothing.
 use mathlib.Core.Path.{sym, ◌∙◌}
 use Rattle.mode.proofs.Pages.{bytes-sought, bytes-passed}
-use borrow.Author.Rules.{rules}
 use Rattle.mode.proofs.bytes_of.Goals as goal
 
 pub returns-then-sought : goal.returns-then-sought

@@ -3,7 +3,6 @@ use native.Mathlib.Omega.{arith}
 use Rattle.rules.proofs.Writes.{put_then}
 use Rattle.rules.specs.Mode.{paged, capabilities}
 use Rattle.mode.specs.Judged.{kinds}
-use borrow.Author.Rules.{rules}
 use Rattle.mode.proofs.capabilities.Goals as goal
 
 pub returns : goal.returns

@@ -3,7 +3,6 @@ use native.Mathlib.Omega.{arith}
 use Rattle.rules.specs.Mode.{paged}
 use Rattle.rules.proofs.Writes.{put_then}
 use Rattle.mode.proofs.Pages.{members-length}
-use borrow.Author.Rules.{rules}
 use Rattle.mode.proofs.geometry.Goals as goal
 
 pub returns : goal.returns

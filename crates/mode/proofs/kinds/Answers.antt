@@ -2,7 +2,6 @@
 use native.Mathlib.Omega.{arith}
 use Rattle.rules.proofs.Writes.{put_then}
 use Rattle.mode.specs.Judged.{kinds}
-use borrow.Author.Rules.{rules}
 use Rattle.mode.proofs.kinds.Goals as goal
 
 pub returns : goal.returns

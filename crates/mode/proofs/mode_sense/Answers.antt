@@ -4,7 +4,6 @@ use Rattle.rules.specs.Bytes.{byte}
 use Rattle.rules.specs.Order.{outcome}
 use Rattle.mode.specs.Judged.{meaning}
 use Rattle.mode.proofs.Telling.{no_more, by_answer}
-use borrow.Author.Rules.{rules}
 use Rattle.mode.proofs.mode_sense.Goals as goal
 
 pub tell-requires : goal.tell-requires

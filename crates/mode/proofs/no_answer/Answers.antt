@@ -3,7 +3,6 @@ use mathlib.Core.Path.{sym, ◌∙◌}
 use Rattle.rules.specs.Bytes.{byte}
 use Rattle.rules.specs.Mode.{page_control}
 use Rattle.mode.proofs.Pages.{other-control, other-page, too_long}
-use borrow.Author.Rules.{rules}
 use Rattle.mode.proofs.no_answer.Goals as goal
 
 pub returns-then-block-ne0 : goal.returns-then-block-ne0

@@ -2,7 +2,6 @@
 use mathlib.Core.Path.{refl}
 use Rattle.rules.specs.Mode.{page_code}
 use Rattle.rules.specs.Bytes.{byte}
-use borrow.Author.Rules.{rules}
 use Rattle.mode.proofs.page_code.Goals as goal
 
 pub returns : goal.returns

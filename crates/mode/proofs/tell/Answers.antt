@@ -9,7 +9,6 @@ use Rattle.rules.specs.Mode.{mode_whole}
 use Rattle.rules.proofs.Writes.{cut-put}
 use Rattle.order.proofs.Ends.{cut-ends}
 use Rattle.mode.specs.Judged.{meaning}
-use borrow.Author.Rules.{rules}
 use Rattle.mode.proofs.tell.Goals as goal
 
 pub slice_bounds-copy-end : goal.slice_bounds-copy-end

@@ -7,7 +7,6 @@ use Rattle.rules.specs.Mode.{assignments, members}
 use Rattle.rules.proofs.Writes.{put_then}
 use Rattle.mode.specs.Judged.{piece}
 use Rattle.mode.proofs.Pages.{members-length, addresses-length, piece-length, whole_length, whole-made}
-use borrow.Author.Rules.{rules}
 use Rattle.mode.proofs.whole.Goals as goal
 
 pub overflow_sub-n : goal.overflow_sub-n

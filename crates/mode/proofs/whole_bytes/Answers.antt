@@ -1,13 +1,12 @@
 -- `mode::whole_bytes` meets its contract. Assumes nothing.
--- far below what a number holds
 use native.Mathlib.Omega.{arith}
 use Prim.Native.Nat.{ℕ, ◌+◌, ◌*◌, ◌<◌}
 use mathlib.Core.Path.{◌≡◌}
 use Rattle.mode.specs.Judged.{bytes_of}
 use Rattle.mode.proofs.Pages.{bytes_most, whole_length}
-use borrow.Author.Rules.{rules}
 use Rattle.mode.proofs.whole_bytes.Goals as goal
 
+-- far below what a number holds
 few : (code n a g k : ℕ) → a ≡ bytes_of code 0x1D 18 → g ≡ bytes_of code 0x1E (2 * n) → k ≡ bytes_of code 0x1F 18 → n < 65536
     → 4 + a + g + k < 262144
 few code n a g k ea eg ek h = omega (arith, bytes_most code 0x1D 18, bytes_most code 0x1E (2 * n), bytes_most code 0x1F 18)

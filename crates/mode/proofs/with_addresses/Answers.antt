@@ -3,7 +3,6 @@ use native.Mathlib.Omega.{arith}
 use mathlib.Core.Path.{sym, ◌∙◌}
 use Rattle.rules.proofs.Writes.{put-nothing}
 use Rattle.mode.proofs.Pages.{bytes-sought, bytes-passed, piece-sought, piece-passed}
-use borrow.Author.Rules.{rules}
 use Rattle.mode.proofs.with_addresses.Goals as goal
 
 pub addresses-requires : goal.addresses-requires

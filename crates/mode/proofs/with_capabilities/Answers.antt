@@ -4,7 +4,6 @@ use mathlib.Core.Path.{sym, ◌∙◌}
 use Rattle.rules.proofs.Writes.{put-nothing}
 use Rattle.rules.specs.Mode.{capabilities}
 use Rattle.mode.proofs.Pages.{bytes-sought, piece-sought, piece-passed}
-use borrow.Author.Rules.{rules}
 use Rattle.mode.proofs.with_capabilities.Goals as goal
 
 pub capabilities-requires : goal.capabilities-requires

@@ -1,13 +1,9 @@
 -- `mode::with_geometry` meets its contract. Assumes nothing.
 use native.Mathlib.Omega.{arith}
-use mathlib.Core.Path.{◌≡◌, sym, ◌∙◌}
-use mathlib.Core.Bool.{true}
-use Prim.Native.Nat.{◌+◌, ◌*◌}
-use Rattle.rules.specs.Mode.{sought}
+use mathlib.Core.Path.{sym, ◌∙◌}
+use Prim.Native.Nat.{◌*◌}
 use Rattle.rules.proofs.Writes.{put-nothing}
-use Rattle.mode.specs.Judged.{bytes_of}
 use Rattle.mode.proofs.Pages.{bytes-sought, bytes-passed, piece-sought, piece-passed}
-use borrow.Author.Rules.{rules}
 use Rattle.mode.proofs.with_geometry.Goals as goal
 
 pub geometry-requires : goal.geometry-requires

@@ -2,7 +2,6 @@
 use Rattle.moves.specs.Judged.{meaning}
 use Rattle.moves.proofs.Answers.{within-move, within-exchange}
 use Rattle.moves.proofs.Carried.{moved_ends, exchanged-ends, tally-move, tally-exchange, room-to-move, room-to-exchange}
-use borrow.Author.Rules.{rules}
 use Rattle.moves.proofs.carry_out.Goals as goal
 
 pub carry-requires : goal.carry-requires

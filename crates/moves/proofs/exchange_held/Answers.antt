@@ -1,7 +1,6 @@
 -- `moves::exchange_held` meets its contract. Assumes nothing.
 use Rattle.moves.specs.Judged.{exchange_held}
 use Rattle.rules.proofs.Rungs.{rungs}
-use borrow.Author.Rules.{rules}
 use Rattle.moves.proofs.exchange_held.Goals as goal
 
 pub returns-then-place_held : goal.returns-then-place_held

@@ -1,7 +1,6 @@
 -- `moves::exchange_medium` meets its contract. Assumes nothing.
 use Rattle.rules.specs.Choice.{when}
 use Rattle.moves.specs.Judged.{carry_verdict}
-use borrow.Author.Rules.{rules}
 use Rattle.moves.proofs.exchange_medium.Goals as goal
 
 pub medium-requires : goal.medium-requires

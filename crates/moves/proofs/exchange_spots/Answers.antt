@@ -3,7 +3,6 @@ use mathlib.Core.Path.{refl, sym, ◌∙◌}
 use Rattle.rules.proofs.Ladder.{eq_is, eq-not}
 use Rattle.moves.specs.Judged.{exchange_spots}
 use Rattle.moves.proofs.Answers.{place-yes, same_by, looking, recorded}
-use borrow.Author.Rules.{rules}
 use Rattle.moves.proofs.exchange_spots.Goals as goal
 
 pub returns-then-from-le-TRANSPORT : goal.returns-then-from-le-TRANSPORT

@@ -1,6 +1,5 @@
 -- `moves::medium` meets its contract. Assumes nothing.
 use Rattle.moves.proofs.Carried.{records-are, judged-is, judged-able}
-use borrow.Author.Rules.{rules}
 use Rattle.moves.proofs.medium.Goals as goal
 
 pub judge-ruling-requires : goal.judge-ruling-requires

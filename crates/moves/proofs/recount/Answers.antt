@@ -1,7 +1,6 @@
 -- `moves::recount` meets its contract. Assumes nothing.
 use native.Mathlib.Omega.{arith}
 use Rattle.moves.proofs.Answers.{shelf-most, shown_by}
-use borrow.Author.Rules.{rules}
 use Rattle.moves.proofs.recount.Goals as goal
 
 pub overflow_add-more : goal.overflow_add-more

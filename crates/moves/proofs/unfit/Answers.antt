@@ -1,6 +1,5 @@
 -- `moves::unfit` meets its contract. Assumes nothing.
 use Rattle.moves.proofs.Answers.{no-drive, drive-by}
-use borrow.Author.Rules.{rules}
 use Rattle.moves.proofs.unfit.Goals as goal
 
 pub returns-then-kind-ne-DRIVE : goal.returns-then-kind-ne-DRIVE

@@ -3,7 +3,6 @@ use mathlib.Core.Path.{refl}
 use Rattle.rules.specs.Bytes.{byte}
 use Rattle.rules.specs.Command.{block_fits}
 use Rattle.rules.proofs.Ladder.{eq_is, eq-not}
-use borrow.Author.Rules.{rules}
 use Rattle.numbers.proofs.block_fits.Goals as goal
 
 pub returns-then-block-eq0 : goal.returns-then-block-eq0

@@ -1,6 +1,5 @@
 -- `numbers::known_host` meets its contract. Assumes nothing.
 use Rattle.numbers.proofs.Hosts.{from_low, below-low}
-use borrow.Author.Rules.{rules}
 use Rattle.numbers.proofs.known_host.Goals as goal
 
 pub returns-then-host-ge1 : goal.returns-then-host-ge1

@@ -3,7 +3,6 @@ use native.Mathlib.Omega.{arith}
 use Rattle.rules.specs.Command.{wanted}
 use Rattle.operation.specs.Meaning.{meaning}
 use Rattle.operation.proofs.Lengths.{sized}
-use borrow.Author.Rules.{rules}
 use Rattle.numbers.proofs.parameters_fit.Goals as goal
 
 pub word_at-requires : goal.word_at-requires

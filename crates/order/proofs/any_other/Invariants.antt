@@ -1,12 +1,8 @@
 -- `order::any_other` meets its contract. Assumes nothing.
 use Prim.Native.Nat.{◌≤◌, ◌-◌}
-use native.Mathlib.Omega.{arith}
-use mathlib.Core.Path.{sym, ap, ◌∙◌}
-use borrow.Author.Rules.{rules}
-use Rattle.rules.proofs.Loops.{Failed, failed-none, failed-more, found-there, found_nowhere}
-use Rattle.rules.specs.Tables.{places, holder}
+use Rattle.rules.proofs.Loops.{Failed}
+use Rattle.rules.specs.Tables.{holder}
 use Rattle.rules.specs.Order.{other}
-use Rattle.order.specs.Holders.{any_other}
 use Rattle.order.proofs.any_other.Given as goal
 
 abbrev pub invariant-loop-p : goal.invariant-loop-p

@@ -1,6 +1,5 @@
 -- `order::check` meets its contract. Assumes nothing.
 use Rattle.order.proofs.Ends.{check-ends}
-use borrow.Author.Rules.{rules}
 use Rattle.order.proofs.check.Goals as goal
 
 pub returns : goal.returns

@@ -1,6 +1,5 @@
 -- `order::conflict` meets its contract. Assumes nothing.
 use Rattle.order.proofs.Ends.{conflict-ends}
-use borrow.Author.Rules.{rules}
 use Rattle.order.proofs.conflict.Goals as goal
 
 pub returns : goal.returns

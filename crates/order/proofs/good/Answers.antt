@@ -1,6 +1,5 @@
 -- `order::good` meets its contract. Assumes nothing.
 use Rattle.order.proofs.Ends.{good-ends}
-use borrow.Author.Rules.{rules}
 use Rattle.order.proofs.good.Goals as goal
 
 pub returns : goal.returns

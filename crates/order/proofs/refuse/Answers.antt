@@ -1,5 +1,4 @@
 -- `order::refuse` meets its contract: one arm for each cause. Assumes nothing.
-use borrow.Author.Rules.{rules}
 use Rattle.rules.specs.Order.{refused}
 use Rattle.order.specs.Ending.{reason}
 use Rattle.order.proofs.refuse.Goals as goal

@@ -9,18 +9,6 @@ use Rattle.pages.proofs.copy_label.Goals as goal
 pub loop-i-init : goal.loop-i-init
 loop-i-init c = (put-none _, omega arith, refl, refl)
 
-pub bounds-label-i : goal.bounds-label-i
-bounds-label-i c = omega arith
-
-pub bounds-x-i : goal.bounds-x-i
-bounds-x-i c = omega arith
-
-pub overflow_add-i : goal.overflow_add-i
-overflow_add-i c = omega arith
-
-pub loop-i-smaller : goal.loop-i-smaller
-loop-i-smaller c = omega arith
-
 pub loop-i-preserved : goal.loop-i-preserved
 loop-i-preserved c = let l = c.loop-i in (rw l.invariant.0 (put-more _ _ l.i (omega arith)), omega arith, simp length-set l.invariant.2, l.invariant.3)
 
@@ -28,18 +16,6 @@ pub loop-j-init : goal.loop-j-init
 loop-j-init c =
     let l = c.loop-i in
     (put-none _, omega arith, refl, l.invariant.0 ∙ put_all _ _ l.i (omega arith) ∙ put_whole _ _ (omega arith))
-
-pub bounds-x-j : goal.bounds-x-j
-bounds-x-j c = omega arith
-
-pub bounds-d-j : goal.bounds-d-j
-bounds-d-j c = omega arith
-
-pub overflow_add-j : goal.overflow_add-j
-overflow_add-j c = omega arith
-
-pub loop-j-smaller : goal.loop-j-smaller
-loop-j-smaller c = omega arith
 
 pub loop-j-preserved : goal.loop-j-preserved
 loop-j-preserved c = let l = c.loop-j in (rw (l.invariant.0, l.invariant.3) (put-more _ _ l.j (omega arith)), omega arith, simp length-set l.invariant.2, l.invariant.3)

@@ -1,5 +1,4 @@
 -- `pages::describe_marked` meets its contract. Assumes nothing.
--- the descriptor has room
 use mathlib.Core.Path.{◌≡◌, sym, ◌∙◌}
 use native.Mathlib.Omega.{arith}
 use Prim.Native.Nat.{ℕ, ◌+◌, ◌*◌, ◌-◌, ◌≤◌}
@@ -13,6 +12,7 @@ use Rattle.pages.proofs.Lent.{put-part}
 use Rattle.pages.proofs.Descriptor.{descriptor-length, descriptors-one, descriptors-none}
 use Rattle.pages.proofs.describe_marked.Goals as goal
 
+-- the descriptor has room
 room : (at w n width len : ℕ) → n ≡ 1 → w ≡ width → at + n * width ≤ len → at + w ≤ len
 room at w n width len e f h = rw f (omega (arith, rw e at h))
 

@@ -1,5 +1,4 @@
 -- `pages::page_header` meets its contract. Assumes nothing.
--- the bytes of a descriptor, and of all of them, are few
 use mathlib.Core.Path.{◌≡◌, ◌∙◌}
 use Prim.Native.Nat.{ℕ, ◌*◌, ◌<◌, ◌≤◌}
 use native.Mathlib.Omega.{arith}
@@ -10,6 +9,7 @@ use Rattle.rules.specs.Listing.{page_header, width}
 use Rattle.pages.proofs.Descriptor.{times-width, width_few}
 use Rattle.pages.proofs.page_header.Goals as goal
 
+-- the bytes of a descriptor, and of all of them, are few
 few : (tagged : Bool) (n w : ℕ) → w ≡ width tagged → n < 65536 → (w ≤ 52) × (n * w < 3407872)
 few tagged n w e h = rw e ((width_few tagged).1, times-width tagged n h)
 

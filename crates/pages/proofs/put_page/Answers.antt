@@ -1,5 +1,4 @@
 -- `pages::put_page` meets its contract. Assumes nothing.
--- the page has room
 use mathlib.Core.Path.{◌≡◌, refl, sym, ◌∙◌}
 use native.Mathlib.Omega.{arith}
 use borrow.Author.Tests.{eq-eqb, ne_eqb}
@@ -19,6 +18,7 @@ use Rattle.pages.proofs.Marked.{marks-length}
 use Rattle.pages.proofs.Descriptor.{run_length, page-bytes-is}
 use Rattle.pages.proofs.put_page.Goals as goal
 
+-- the page has room
 room : (tagged : Bool) (m w at len : ℕ) → w ≡ width tagged → (m ≡ 0 → ⊥) → at + page_bytes tagged m ≤ len → at + 8 + m * w ≤ len
 room tagged m w at len e g h =
     let u = page-bytes-is tagged m g in

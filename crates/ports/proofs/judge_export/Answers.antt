@@ -2,7 +2,6 @@
 use Rattle.rules.specs.Events.{exporting}
 use Rattle.ports.specs.Judged.{meaning}
 use Rattle.ports.proofs.Judging.{port-within, port-room, elsewhere, locked, export-empty, export-full}
-use borrow.Author.Rules.{rules}
 use Rattle.ports.proofs.judge_export.Goals as goal
 
 pub returns-in_default : goal.returns-in_default

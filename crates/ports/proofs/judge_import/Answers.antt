@@ -6,7 +6,6 @@ use Rattle.rules.specs.Tables.{labels}
 use Rattle.rules.specs.Events.{importing}
 use Rattle.ports.specs.Judged.{meaning}
 use Rattle.ports.proofs.Judging.{port-within, port-room, elsewhere, locked, right-small, import-full, import-wrong, import-right}
-use borrow.Author.Rules.{rules}
 use Rattle.ports.proofs.judge_import.Goals as goal
 
 pub returns-in_default : goal.returns-in_default

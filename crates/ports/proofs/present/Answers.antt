@@ -1,11 +1,8 @@
 -- `ports::present` meets its contract. Assumes nothing.
-use Prim.Native.Nat.{◌-◌, ◌≤◌}
 use native.Mathlib.Omega.{arith}
 use mathlib.Core.Path.{sym, ◌∙◌}
-use lib.Dec.{eqb}
 use borrow.Author.Tests.{eq-eqb, ne_eqb}
-use borrow.Author.Rules.{rules}
-use Rattle.rules.proofs.Loops.{Failed, failed-none, failed-more, found-there, found_nowhere}
+use Rattle.rules.proofs.Loops.{failed-none, failed-more, found-there, found_nowhere}
 use Rattle.rules.specs.Tables.{places}
 use Rattle.rules.specs.Events.{present}
 use Rattle.ports.proofs.present.Goals as goal

@@ -2,7 +2,6 @@
 use mathlib.Core.Path.{sym, ap, ◌∙◌}
 use Rattle.rules.specs.Tables.{volumes}
 use Rattle.ports.proofs.Judging.{wrong-zero, wrong-above, wrong-present}
-use borrow.Author.Rules.{rules}
 use Rattle.ports.proofs.wrong_volume.Goals as goal
 
 pub returns-then-volume-eq0 : goal.returns-then-volume-eq0

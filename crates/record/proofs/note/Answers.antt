@@ -1,6 +1,5 @@
 -- `record::note` meets its contract. Assumes nothing.
 use mathlib.Core.Path.{◌∙◌}
-use borrow.Author.Rules.{rules}
 use Rattle.record.proofs.note.Goals as goal
 
 pub returns : goal.returns

@@ -1,6 +1,5 @@
 -- `record::wipe` meets its contract. Assumes nothing.
 use mathlib.Core.Path.{◌∙◌}
-use borrow.Author.Rules.{rules}
 use Rattle.record.proofs.wipe.Goals as goal
 
 pub returns : goal.returns

@@ -1,5 +1,4 @@
 -- `search::agrees` meets its contract. Assumes nothing.
-use borrow.Author.Rules.{rules}
 use Rattle.search.proofs.Templates.{agree-is}
 use Rattle.search.proofs.agrees.Goals as goal
 

@@ -1,10 +1,8 @@
 -- `search::all_alike`: at the loop's head the bytes before i go with the label's. Assumes nothing.
 use Rattle.std.proofs.Common.{ap, not}
-use Prim.Native.Nat.{◌-◌}
-use borrow.Author.Rules.{rules}
 use Rattle.rules.specs.Bytes.{byte}
 use Rattle.search.specs.Marks.{goes}
-use Rattle.search.proofs.Templates.{Alike, alike-begins, alike-stops, alike-on, alike-ends}
+use Rattle.search.proofs.Templates.{alike-begins, alike-stops, alike-on, alike-ends}
 use Rattle.search.proofs.all_alike.Goals as goal
 
 pub loop-i-init : goal.loop-i-init

@@ -1,9 +1,6 @@
 -- `search::all_alike`: at the loop's head the bytes before i go with the label's. Assumes nothing.
 use Prim.Native.Nat.{◌-◌}
-use borrow.Author.Rules.{rules}
-use Rattle.rules.specs.Bytes.{byte}
-use Rattle.search.specs.Marks.{goes}
-use Rattle.search.proofs.Templates.{Alike, alike-begins, alike-stops, alike-on, alike-ends}
+use Rattle.search.proofs.Templates.{Alike}
 use Rattle.search.proofs.all_alike.Given as goal
 
 abbrev pub invariant-loop-i : goal.invariant-loop-i

@@ -1,11 +1,7 @@
 -- `search::cares`: at the loop's head the bytes before i are told of, and none of them is '*'. Assumes nothing.
-use Prim.Native.Nat.{◌-◌}
 use native.Mathlib.Omega.{arith}
 use mathlib.Core.Path.{sym, ◌∙◌}
-use borrow.Author.Rules.{rules}
-use Rattle.rules.specs.Tables.{template_size}
 use Rattle.rules.specs.Bytes.{byte}
-use Rattle.search.specs.Marks.{Caring}
 use Rattle.search.proofs.Templates.{care-begins, care-star, care-all, care-on}
 use Rattle.search.proofs.cares.Goals as goal
 

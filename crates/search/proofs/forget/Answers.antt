@@ -1,5 +1,4 @@
 -- `search::forget` meets its contract. Assumes nothing.
-use borrow.Author.Rules.{rules}
 use Rattle.rules.specs.Search.{no_search}
 use Rattle.search.proofs.forget.Goals as goal
 

@@ -1,5 +1,4 @@
 -- `search::in_range` meets its contract. Assumes nothing.
-use borrow.Author.Rules.{rules}
 use Rattle.rules.specs.Tables.{action, least, greatest}
 use Rattle.rules.specs.Bytes.{byte}
 use Rattle.search.proofs.Matching.{range-any, range-low, range-high}

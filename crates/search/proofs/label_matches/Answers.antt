@@ -1,5 +1,4 @@
 -- `search::label_matches` meets its contract. Assumes nothing.
-use borrow.Author.Rules.{rules}
 use Rattle.rules.specs.Search.{label_matches}
 use Rattle.rules.proofs.Ladder.{yes, all_yes, ladder}
 use Rattle.rules.proofs.Rungs.{as-choice, last-of-all}

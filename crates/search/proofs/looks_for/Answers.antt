@@ -1,5 +1,4 @@
 -- `search::looks_for` meets its contract. Assumes nothing.
-use borrow.Author.Rules.{rules}
 use Rattle.rules.specs.Listing.{of_type}
 use Rattle.rules.specs.Tables.{action, search_type}
 use Rattle.rules.specs.Bytes.{byte}

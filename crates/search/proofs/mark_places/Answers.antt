@@ -1,9 +1,8 @@
 -- `search::mark_places`: at the loop's head the places before p are looked at. Assumes nothing.
-use Prim.Native.Nat.{◌≤◌, ◌-◌}
 use native.Mathlib.Omega.{arith}
 use borrow.Author.Rules.{rules}
 use Rattle.rules.proofs.Loops.{turned_none, turned-all}
-use Rattle.search.proofs.Places.{Placed, placed-more, mark_made, mark-none}
+use Rattle.search.proofs.Places.{placed-more, mark_made, mark-none}
 use Rattle.search.proofs.mark_places.Goals as goal
 use Rattle.search.proofs.mark_places.Goals.{then-volume_fits, else-volume_fits}
 

@@ -2,7 +2,6 @@
 use Rattle.std.proofs.Common.{not}
 use Prim.Native.Nat.{min}
 use mathlib.Core.Path.{ap, ◌∙◌}
-use borrow.Author.Rules.{rules}
 use Rattle.rules.specs.Tables.{next_address}
 use Rattle.search.proofs.Places.{run-passed, run-marked}
 use Rattle.search.proofs.mark_run.Goals as goal

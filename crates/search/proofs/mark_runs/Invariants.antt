@@ -1,8 +1,6 @@
 -- `search::mark_runs`: at the loop's head `run` runs are marked, which have the places before `place`. Assumes nothing.
 use Prim.Native.Nat.{◌-◌}
-use native.Mathlib.Omega.{arith}
-use borrow.Author.Rules.{rules}
-use Rattle.search.proofs.Marking.{Marking, marking_begins, marking-run, marking-on, marking-ends, place-small}
+use Rattle.search.proofs.Marking.{Marking}
 use Rattle.search.proofs.mark_runs.Given as goal
 
 abbrev pub invariant-loop-run : goal.invariant-loop-run

@@ -1,9 +1,7 @@
 -- `search::none_missed`: at the loop's head `missed` tells of the bytes before i. Assumes nothing.
-use Prim.Native.Nat.{◌-◌}
 use native.Mathlib.Omega.{arith}
-use borrow.Author.Rules.{rules}
 use Rattle.rules.specs.Bytes.{byte}
-use Rattle.search.proofs.Templates.{Missing, miss-begins, miss-ends, care-small, miss-same, miss-other}
+use Rattle.search.proofs.Templates.{miss-begins, miss-ends, care-small, miss-same, miss-other}
 use Rattle.search.proofs.none_missed.Goals as goal
 use Rattle.search.proofs.none_missed.Goals.{then-search-i, else-search-i}
 

@@ -1,10 +1,6 @@
 -- `search::none_missed`: at the loop's head `missed` tells of the bytes before i. Assumes nothing.
 use Prim.Native.Nat.{◌-◌}
-use native.Mathlib.Omega.{arith}
-use mathlib.Core.Logic.{⊎_elim}
-use borrow.Author.Rules.{rules}
-use Rattle.rules.specs.Bytes.{byte}
-use Rattle.search.proofs.Templates.{Missing, miss-begins, miss-ends, care-small, miss-same, miss-other}
+use Rattle.search.proofs.Templates.{Missing}
 use Rattle.search.proofs.none_missed.Given as goal
 
 abbrev pub invariant-loop-i : goal.invariant-loop-i

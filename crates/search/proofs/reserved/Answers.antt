@@ -1,5 +1,4 @@
 -- `search::reserved` meets its contract. Assumes nothing.
-use borrow.Author.Rules.{rules}
 use Rattle.rules.specs.Search.{reserved_tags}
 use Rattle.rules.specs.Choice.{differ}
 use Rattle.rules.specs.Bytes.{byte}

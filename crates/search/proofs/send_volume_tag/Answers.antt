@@ -1,5 +1,4 @@
 -- `search::send_volume_tag` meets its contract. Assumes nothing.
-use borrow.Author.Rules.{rules}
 use Rattle.rules.proofs.Rungs.{ends_as}
 use Rattle.order.specs.Ending.{reason}
 use Rattle.search.proofs.Beginning.{tag-length, tag-reserved, tag-begun}

@@ -2,7 +2,6 @@
 use Prim.Native.Nat.{◌+◌, ◌*◌, ◌-◌}
 use native.Mathlib.Omega.{arith}
 use mathlib.Core.Path.{◌≡◌}
-use borrow.Author.Rules.{rules}
 use Rattle.rules.proofs.Ladder.{ladder, differ-is, all_yes}
 use Rattle.rules.proofs.Rungs.{as-choice, last-of-all}
 use Rattle.search.specs.Marks.{volume_fits}

@@ -1,9 +1,7 @@
 -- `sound::all_within`: at the loop's head `fine` tells of those before i. Assumes nothing.
-use Rattle.std.proofs.Common.{◌-◌, length, rules}
+use Rattle.std.proofs.Common.{rules}
 use Rattle.rules.specs.Bytes.{byte}
-use Rattle.rules.specs.Tables.{most_generations}
-use Rattle.rules.specs.Sound.{within}
-use Rattle.sound.proofs.Gathered.{Gathered, gather-begins, gather-on, gather-ends}
+use Rattle.sound.proofs.Gathered.{gather-begins, gather-on, gather-ends}
 use Rattle.sound.proofs.all_within.Goals as goal
 
 pub loop-i-init : goal.loop-i-init

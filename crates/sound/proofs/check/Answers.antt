@@ -1,14 +1,14 @@
 -- `sound::check` meets its contract. Assumes nothing.
 use Rattle.sound.proofs.Pass.{never}
 use Rattle.sound.proofs.Whole.{no-head, runs_of}
-use Rattle.std.proofs.Common.{rules}
 use Rattle.sound.proofs.check.Goals as goal
 
 pub returns-then-head-ne-HEAD_SIZE : goal.returns-then-head-ne-HEAD_SIZE
 returns-then-head-ne-HEAD_SIZE c = record { sound_value = no-head _ _ _ c.if-head-ne-HEAD_SIZE.true; runs = never }
 
 pub parts_sound-sound-requires : goal.parts_sound-sound-requires
-parts_sound-sound-requires c = (c.if-head-ne-HEAD_SIZE.false, (c.ranges-rs.ensures, runs_of _ _ _ c.ranges-rs.ensures c.sorted-runs.ensures))
+parts_sound-sound-requires c =
+    record { head_len = c.if-head-ne-HEAD_SIZE.false; rs_value = c.ranges-rs.ensures; runs = runs_of _ _ _ c.ranges-rs.ensures c.sorted-runs.ensures }
 
 pub returns : goal.returns
 returns c =

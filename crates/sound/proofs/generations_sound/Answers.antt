@@ -2,7 +2,6 @@
 use Rattle.rules.specs.Sound.{generations_sound}
 use Rattle.sound_head.proofs.Tests.{all-eq-stop}
 use Rattle.sound.proofs.Generations.{generations-by}
-use Rattle.std.proofs.Common.{rules}
 use Rattle.sound.proofs.generations_sound.Goals as goal
 
 pub returns-then-generations-top : goal.returns-then-generations-top

@@ -1,7 +1,6 @@
 -- `sound::labels_sound` meets its contract. Assumes nothing.
 use Rattle.rules.specs.Sound.{labels_sound}
 use Rattle.sound_head.proofs.Tests.{tests}
-use Rattle.std.proofs.Common.{rules}
 use Rattle.sound.proofs.labels_sound.Goals as goal
 
 pub returns-then-top-gt-MOST_VOLUMES : goal.returns-then-top-gt-MOST_VOLUMES

@@ -1,7 +1,6 @@
 -- `sound_head::attention_sound` meets its contract. Assumes nothing.
 use Rattle.rules.specs.Sound.{attention_sound}
 use Rattle.sound_head.proofs.Tests.{tests}
-use borrow.Author.Rules.{rules}
 use Rattle.sound_head.proofs.attention_sound.Goals as goal
 
 pub returns-then-is_pair : goal.returns-then-is_pair

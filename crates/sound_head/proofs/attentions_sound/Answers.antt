@@ -1,10 +1,6 @@
 -- `sound_head::attentions_sound`: at the loop's head the first i hosts are passed. Assumes nothing.
-use Prim.Native.Nat.{suc, ◌-◌}
-use borrow.Author.Rules.{rules}
 use Rattle.std.proofs.Common.{ap, not}
-use Rattle.rules.specs.Tables.{hosts, attention, attentionq}
-use Rattle.rules.specs.Sound.{attention_sound}
-use Rattle.sound_head.proofs.Loops.{Held, held_none, held_all, turn_on, turn-stops}
+use Rattle.sound_head.proofs.Loops.{held_none, held_all, turn_on, turn-stops}
 use Rattle.sound_head.proofs.Hosts.{attention-by}
 use Rattle.sound_head.proofs.attentions_sound.Goals as goal
 

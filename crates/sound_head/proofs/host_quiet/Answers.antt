@@ -2,7 +2,6 @@
 use borrow.Author.Tests.{eqb-true}
 use Rattle.rules.proofs.Ladder.{never}
 use Rattle.sound_head.proofs.Hosts.{quiet-host}
-use borrow.Author.Rules.{rules}
 use Rattle.sound_head.proofs.host_quiet.Goals as goal
 
 pub returns-then-high-low-ne0 : goal.returns-then-high-low-ne0

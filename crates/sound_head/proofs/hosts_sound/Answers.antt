@@ -1,7 +1,6 @@
 -- `sound_head::hosts_sound` meets its contract. Assumes nothing.
 use mathlib.Core.Path.{refl, sym}
 use Rattle.sound_head.proofs.Tests.{tests, all_go, all_done}
-use borrow.Author.Rules.{rules}
 use Rattle.sound_head.proofs.hosts_sound.Goals as goal
 
 pub returns-then-quiet : goal.returns-then-quiet

@@ -1,9 +1,6 @@
 -- `sound_head::quiet`: at the loop's head the first i hosts are quiet. Assumes nothing.
-use Prim.Native.Nat.{◌-◌}
-use borrow.Author.Rules.{rules}
-use Rattle.rules.specs.Tables.{hosts}
 use Rattle.rules.proofs.Ladder.{never}
-use Rattle.sound_head.proofs.Hosts.{Quieter, quiet_none, quiet-more, quiet_all}
+use Rattle.sound_head.proofs.Hosts.{quiet_none, quiet-more, quiet_all}
 use Rattle.sound_head.proofs.quiet.Goals as goal
 
 pub loop-i-init : goal.loop-i-init

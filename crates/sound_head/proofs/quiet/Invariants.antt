@@ -1,10 +1,7 @@
 -- `sound_head::quiet`: at the loop's head the first i hosts are quiet. Assumes nothing.
 use Prim.Native.Nat.{◌-◌}
-use borrow.Author.Rules.{rules}
-use borrow.Author.Tests.{not-false}
 use Rattle.rules.specs.Tables.{hosts}
-use Rattle.rules.proofs.Ladder.{never}
-use Rattle.sound_head.proofs.Hosts.{Quieter, quiet_none, quiet-more, quiet_all}
+use Rattle.sound_head.proofs.Hosts.{Quieter}
 use Rattle.sound_head.proofs.quiet.Given as goal
 
 abbrev pub invariant-loop-i : goal.invariant-loop-i

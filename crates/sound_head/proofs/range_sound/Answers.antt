@@ -1,7 +1,6 @@
 -- `sound_head::range_sound` meets its contract. Assumes nothing.
 use Rattle.rules.specs.Sound.{range_sound}
 use Rattle.sound_head.proofs.Tests.{tests}
-use borrow.Author.Rules.{rules}
 use Rattle.sound_head.proofs.range_sound.Goals as goal
 
 pub returns-then-r-eq0 : goal.returns-then-r-eq0

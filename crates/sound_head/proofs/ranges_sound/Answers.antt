@@ -1,7 +1,6 @@
 -- `sound_head::ranges_sound` meets its contract. Assumes nothing.
 use Rattle.sound_head.proofs.Tests.{tests}
 use Rattle.sound_head.proofs.Ranges.{ranges-by}
-use borrow.Author.Rules.{rules}
 use Rattle.sound_head.proofs.ranges_sound.Goals as goal
 
 pub returns-then-not-each_sound : goal.returns-then-not-each_sound

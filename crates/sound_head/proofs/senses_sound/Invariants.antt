@@ -1,10 +1,8 @@
 -- `sound_head::senses_sound`: at the loop's head the first i hosts are passed. Assumes nothing.
 use Prim.Native.Nat.{suc, ◌-◌}
-use borrow.Author.Rules.{rules}
 use Rattle.rules.specs.Tables.{hosts, key, asc, ascq}
 use Rattle.rules.specs.Sound.{sense_sound}
-use Rattle.sound_head.proofs.Loops.{Held, held_none, held_all, turn_on, turn-stops}
-use Rattle.sound_head.proofs.Hosts.{sense-by}
+use Rattle.sound_head.proofs.Loops.{Held}
 use Rattle.sound_head.proofs.senses_sound.Given as goal
 
 abbrev pub invariant-loop-i : goal.invariant-loop-i

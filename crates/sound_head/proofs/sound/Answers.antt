@@ -2,7 +2,6 @@
 use Rattle.rules.specs.Sound.{head_sound}
 use Rattle.sound_head.proofs.Tests.{tests}
 use Rattle.sound_head.proofs.Ranges.{counts-at, ranges-at, sorted-at}
-use borrow.Author.Rules.{rules}
 use Rattle.sound_head.proofs.sound.Goals as goal
 
 pub returns-then-not-counts_sound : goal.returns-then-not-counts_sound

@@ -1,7 +1,6 @@
 -- `tables::admits` meets its contract. Assumes nothing.
 use Rattle.rules.specs.Choice.{differ}
 use Rattle.tables.specs.LookUp.{admits}
-use Rattle.std.proofs.Common.{rules}
 use Rattle.tables.proofs.admits.Goals as goal
 
 pub returns-in-Any : goal.returns-in-Any

@@ -1,5 +1,4 @@
 -- `tables::find` meets its contract. Assumes nothing.
-use Rattle.std.proofs.Common.{rules}
 use Rattle.tables.proofs.LookUp.{found-spot}
 use Rattle.tables.proofs.find.Goals as goal
 

@@ -1,6 +1,5 @@
 -- `tables::pick` meets its contract. Assumes nothing.
 use Rattle.rules.proofs.Ladder.{ladder}
-use Rattle.std.proofs.Common.{rules}
 use Rattle.tables.proofs.pick.Goals as goal
 
 pub returns-then-admits : goal.returns-then-admits

@@ -1,5 +1,5 @@
 -- `tables::range_at` meets its contract. Assumes nothing.
-use Rattle.std.proofs.Common.{add-one, rules}
+use Rattle.std.proofs.Common.{add-one}
 use Rattle.rules.specs.Roster.{range}
 use Rattle.tables.proofs.range_at.Goals as goal
 

@@ -1,7 +1,6 @@
 -- `tables::ranges` meets its contract. Assumes nothing.
 use Rattle.rules.specs.Roster.{ranges}
 use Rattle.tables.specs.Ranges.{meant}
-use Rattle.std.proofs.Common.{rules}
 use Rattle.tables.proofs.ranges.Goals as goal
 
 pub returns : goal.returns

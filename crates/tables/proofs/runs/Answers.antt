@@ -1,5 +1,5 @@
 -- `tables::runs` meets its contract. Assumes nothing.
-use Rattle.std.proofs.Common.{◌∙◌, rules}
+use Rattle.std.proofs.Common.{◌∙◌}
 use Rattle.tables.proofs.runs.Goals as goal
 
 pub returns : goal.returns

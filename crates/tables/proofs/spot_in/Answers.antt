@@ -1,5 +1,4 @@
 -- `tables::spot_in` meets its contract. Assumes nothing.
-use Rattle.std.proofs.Common.{arith, rules}
 use Rattle.tables.proofs.Spots.{lies-from}
 use Rattle.tables.proofs.spot_in.Goals as goal
 

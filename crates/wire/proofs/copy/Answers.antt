@@ -1,9 +1,7 @@
 -- `wire::copy`: at the loop's head the first i bytes of src stand at the front. Assumes nothing.
-use mathlib.Core.Path.{◌≡◌, refl, ◌∙◌}
-use Prim.Native.Nat.{◌≤◌, ◌-◌}
+use mathlib.Core.Path.{refl, ◌∙◌}
 use native.Mathlib.Omega.{arith}
-use lib.ListN.{length, take, length-set}
-use Rattle.rules.specs.Bytes.{put}
+use lib.ListN.{length-set}
 use Rattle.wire.proofs.Runs.{put-none, put-more, put_all}
 use Rattle.wire.proofs.copy.Goals as goal
 

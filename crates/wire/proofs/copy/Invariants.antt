@@ -1,10 +1,8 @@
 -- `wire::copy`: at the loop's head the first i bytes of src stand at the front. Assumes nothing.
-use mathlib.Core.Path.{◌≡◌, refl, ◌∙◌}
+use mathlib.Core.Path.{◌≡◌}
 use Prim.Native.Nat.{◌≤◌, ◌-◌}
-use native.Mathlib.Omega.{arith}
-use lib.ListN.{length, take, length-set}
+use lib.ListN.{length, take}
 use Rattle.rules.specs.Bytes.{put}
-use Rattle.wire.proofs.Runs.{put-none, put-more, put_all}
 use Rattle.wire.proofs.copy.Given as goal
 
 abbrev pub invariant-loop-i : goal.invariant-loop-i

@@ -3,7 +3,6 @@ use native.Mathlib.Omega.{arith}
 use native.Mathlib.Numerals.{add-one}
 use lib.ListN.{length-set}
 use Rattle.rules.specs.Bytes.{put}
-use borrow.Author.Rules.{rules}
 use Rattle.wire.proofs.put_two.Goals as goal
 
 pub bounds-xs-i-2 : goal.bounds-xs-i-2

@@ -1,6 +1,5 @@
 -- `wire::triple_at` meets its contract. Assumes nothing.
 use Rattle.rules.specs.Bytes.{byte, triple}
-use borrow.Author.Rules.{rules}
 use Rattle.wire.proofs.triple_at.Goals as goal
 
 pub returns : goal.returns

@@ -1,9 +1,6 @@
 -- `case_text::bytes::all_bytes` meets its contract. Assumes nothing.
-use Prim.Native.Nat.{◌≤◌, ◌-◌}
 use mathlib.Core.Path.{◌∙◌}
-use lib.ListN.{length}
-use Rattle.case_text.specs.Bytes.{given}
-use Rattle.case_text.proofs.Buffers.{Going, byte_run, byte_next, bytes-start, byte-run, byte_next_lem, going_end, going-stop, going_on}
+use Rattle.case_text.proofs.Buffers.{bytes-start, byte-run, byte_next_lem, going_end, going-stop, going_on}
 use borrow.Author.Rules.{rules}
 use Rattle.case_text.proofs.bytes.all_bytes.Goals as goal
 

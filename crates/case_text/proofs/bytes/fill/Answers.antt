@@ -1,10 +1,7 @@
 -- `case_text::bytes::fill` meets its contract. Assumes nothing.
-use borrow.Author.Rules.{rules}
-use mathlib.Core.Path.{◌≡◌, refl, ◌∙◌}
-use Prim.Native.Nat.{◌≤◌, ◌+◌, ◌-◌}
+use mathlib.Core.Path.{refl, ◌∙◌}
 use native.Mathlib.Omega.{arith}
-use lib.ListN.{length, replicate, length-set}
-use Rattle.rules.specs.Bytes.{put}
+use lib.ListN.{length-set}
 use Rattle.case_text.proofs.Buffers.{fill_none, fill_more, fill-all}
 use Rattle.case_text.proofs.bytes.fill.Goals as goal
 

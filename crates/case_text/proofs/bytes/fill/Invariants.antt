@@ -1,11 +1,8 @@
 -- `case_text::bytes::fill` meets its contract. Assumes nothing.
-use borrow.Author.Rules.{rules}
-use mathlib.Core.Path.{◌≡◌, refl, ◌∙◌}
+use mathlib.Core.Path.{◌≡◌}
 use Prim.Native.Nat.{◌≤◌, ◌+◌, ◌-◌}
-use native.Mathlib.Omega.{arith}
-use lib.ListN.{length, replicate, length-set}
+use lib.ListN.{length, replicate}
 use Rattle.rules.specs.Bytes.{put}
-use Rattle.case_text.proofs.Buffers.{fill_none, fill_more, fill-all}
 use Rattle.case_text.proofs.bytes.fill.Given as goal
 
 abbrev pub invariant-loop-i : goal.invariant-loop-i

@@ -3,7 +3,6 @@ use mathlib.Core.Path.{refl}
 use Rattle.case_text.specs.Bytes.{byte_of}
 use Rattle.rules.proofs.Ladder.{eq_is, eq-not, lt-is}
 use Rattle.case_text.proofs.Values.{high-none, high-alone, low-none, both-digits}
-use borrow.Author.Rules.{rules}
 use Rattle.case_text.proofs.bytes.one_byte.Goals as goal
 
 pub returns-then-n-eq0 : goal.returns-then-n-eq0

@@ -2,7 +2,6 @@
 use mathlib.Core.Path.{sym}
 use lib.Seq.{length-take-le}
 use Rattle.case_text.proofs.Buffers.{run_none, run-times, run-once}
-use borrow.Author.Rules.{rules}
 use Rattle.case_text.proofs.bytes.one_run.Goals as goal
 
 pub slice_bounds-one_byte-end : goal.slice_bounds-one_byte-end

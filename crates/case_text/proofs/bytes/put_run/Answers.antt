@@ -1,6 +1,5 @@
 -- `case_text::bytes::put_run` meets its contract. Assumes nothing.
 use Rattle.case_text.proofs.Buffers.{put-bad, put-many, put-done}
-use borrow.Author.Rules.{rules}
 use Rattle.case_text.proofs.bytes.put_run.Goals as goal
 
 pub returns-then-bytes-count : goal.returns-then-bytes-count

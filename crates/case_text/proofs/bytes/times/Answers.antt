@@ -1,7 +1,6 @@
 -- `case_text::bytes::times` meets its contract. Assumes nothing.
 use mathlib.Core.Path.{sym, ap, ◌∙◌}
 use Rattle.case_text.specs.Bytes.{times_of}
-use borrow.Author.Rules.{rules}
 use Rattle.case_text.proofs.bytes.times.Goals as goal
 
 pub returns-in-Is : goal.returns-in-Is

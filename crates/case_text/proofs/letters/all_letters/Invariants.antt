@@ -1,10 +1,8 @@
 -- `case_text::letters::all_letters` meets its contract. Assumes nothing.
 use Prim.Native.Nat.{◌+◌, ◌-◌}
-use native.Mathlib.Omega.{arith}
 use lib.ListN.{length}
 use Rattle.case_text.specs.Letters.{letter_of, letter_end, written}
-use Rattle.case_text.proofs.Buffers.{Going, text-start, going_end, going-stop, going_on}
-use borrow.Author.Rules.{rules}
+use Rattle.case_text.proofs.Buffers.{Going}
 use Rattle.case_text.proofs.letters.all_letters.Given as goal
 
 abbrev pub invariant-loop-at : goal.invariant-loop-at

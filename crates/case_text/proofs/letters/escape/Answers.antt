@@ -1,6 +1,5 @@
 -- `case_text::letters::escape` meets its contract. Assumes nothing.
 use Rattle.case_text.proofs.Escapes.{tab, digits, no-escape}
-use borrow.Author.Rules.{rules}
 use Rattle.case_text.proofs.letters.escape.Goals as goal
 
 pub returns-then-kind-eq116 : goal.returns-then-kind-eq116

@@ -2,7 +2,6 @@
 use mathlib.Core.Path.{refl}
 use Rattle.rules.proofs.Ladder.{lt-is, lt_not}
 use Rattle.case_text.specs.Letters.{letter_at}
-use borrow.Author.Rules.{rules}
 use Rattle.case_text.proofs.letters.letter.Goals as goal
 
 pub returns-then-at-text : goal.returns-then-at-text

@@ -4,7 +4,6 @@ use mathlib.Core.Path.{ap}
 use Rattle.case_text.specs.declared.bytes.Run.TheVariants.{Times}
 use Rattle.rules.proofs.Ladder.{eq_yes, eq_no}
 use Rattle.case_text.specs.Letters.{letter_of}
-use borrow.Author.Rules.{rules}
 use Rattle.case_text.proofs.letters.one_letter.Goals as goal
 
 pub returns-then-b-eq92 : goal.returns-then-b-eq92

@@ -1,6 +1,5 @@
 -- `case_text::letters::pair` meets its contract. Assumes nothing.
 use Rattle.case_text.proofs.Escapes.{high-none, low-none, both}
-use borrow.Author.Rules.{rules}
 use Rattle.case_text.proofs.letters.pair.Goals as goal
 
 pub returns-then-h-gt15 : goal.returns-then-h-gt15

@@ -1,7 +1,6 @@
 -- `case_text::number::digit` meets its contract. Assumes nothing.
 use Rattle.case_text.specs.Numbers.{digit_of}
 use Rattle.rules.proofs.Ladder.{ladder}
-use borrow.Author.Rules.{rules}
 use Rattle.case_text.proofs.number.digit.Goals as goal
 
 pub returns-then-b-lt48 : goal.returns-then-b-lt48

@@ -4,7 +4,6 @@ use lib.Seq.{length-take-le}
 use native.Mathlib.Omega.{arith}
 use Rattle.case_text.specs.Numbers.{number_of}
 use Rattle.rules.proofs.Ladder.{eq_is, eq-not}
-use borrow.Author.Rules.{rules}
 use Rattle.case_text.proofs.number.number_in.Goals as goal
 
 pub returns-then-n-eq0 : goal.returns-then-n-eq0

@@ -10,24 +10,6 @@ use Rattle.pages.proofs.marks.count.Goals.{then-marks-i-ne0, else-marks-i-ne0}
 pub returns-then-marks-eq0 : goal.returns-then-marks-eq0
 returns-then-marks-eq0 c = sym (marks-all _ _ _ c.if-marks-eq0.true)
 
-pub overflow_add-place : goal.overflow_add-place
-overflow_add-place c = omega arith
-
-pub loop-i-init : goal.loop-i-init
-loop-i-init c = omega arith
-
-pub bounds-marks-i : goal.bounds-marks-i
-bounds-marks-i c = omega arith
-
-pub overflow_add-k : goal.overflow_add-k
-overflow_add-k c = omega arith
-
-pub overflow_add-i : goal.overflow_add-i
-overflow_add-i c = omega arith
-
-pub loop-i-smaller : goal.loop-i-smaller
-loop-i-smaller c = omega arith
-
 pub loop-i-preserved : goal.loop-i-preserved
 unfolding byte
 loop-i-preserved c =

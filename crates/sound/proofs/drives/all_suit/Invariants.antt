@@ -1,6 +1,6 @@
 -- `sound::drives::all_suit`: at the loop's head the first k drives are suited. Assumes nothing.
-use Rattle.std.proofs.Common.{◌-◌, rules}
-use Rattle.sound.proofs.Suited.{Suiting, suit-begins, suit-stops, suit-on, suit-ends}
+use Rattle.std.proofs.Common.{◌-◌}
+use Rattle.sound.proofs.Suited.{Suiting}
 use Rattle.sound.proofs.drives.all_suit.Given as goal
 
 abbrev pub invariant-loop-k : goal.invariant-loop-k

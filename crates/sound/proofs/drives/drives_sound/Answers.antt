@@ -1,5 +1,5 @@
 -- `sound::drives::drives_sound` meets its contract. Assumes nothing.
-use Rattle.std.proofs.Common.{refl, rules}
+use Rattle.std.proofs.Common.{refl}
 use Rattle.sound_head.proofs.Tests.{all-eq-stop}
 use Rattle.sound.specs.Checks.{drives_by}
 use Rattle.sound.proofs.Suited.{place-by, drives-from, drives-none, drives-some}

@@ -1,5 +1,4 @@
 -- `sound::drives::suits` meets its contract. Assumes nothing.
-use Rattle.std.proofs.Common.{rules}
 use Rattle.sound.proofs.Suited.{suits-empty, suits-full}
 use Rattle.sound.proofs.drives.suits.Goals as goal
 

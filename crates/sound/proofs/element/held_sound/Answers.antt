@@ -1,5 +1,5 @@
 -- `sound::element::held_sound` meets its contract. Assumes nothing.
-use Rattle.std.proofs.Common.{sym, ◌∙◌, rules}
+use Rattle.std.proofs.Common.{sym, ◌∙◌}
 use Rattle.sound.proofs.Pass.{held_none, hold-by}
 use Rattle.sound.proofs.element.held_sound.Goals as goal
 

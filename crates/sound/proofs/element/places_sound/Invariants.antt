@@ -1,8 +1,7 @@
 -- `sound::element::places_sound`: at the loop's head the first k runs are passed, and the places before `first`. Assumes nothing.
-use Rattle.std.proofs.Common.{◌-◌, ⊎_elim, arith, rules}
+use Rattle.std.proofs.Common.{◌-◌}
 use Rattle.tables.specs.Ranges.{meaning}
-use Rattle.sound.proofs.Empty.{add-shelf, add-other}
-use Rattle.sound.proofs.Pass.{Filing, file-begins, file-run, file-fits, file-on, file-stops, file-ends}
+use Rattle.sound.proofs.Pass.{Filing}
 use Rattle.sound.proofs.element.places_sound.Given as goal
 
 abbrev pub invariant-loop-k : goal.invariant-loop-k

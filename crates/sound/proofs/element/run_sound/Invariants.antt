@@ -1,7 +1,7 @@
 -- `sound::element::run_sound`: at the loop's head the places before p are passed, and their volumes marked. Assumes nothing.
-use Rattle.std.proofs.Common.{◌-◌, ◌∙◌, ⊎_elim, arith, rules}
+use Rattle.std.proofs.Common.{◌-◌}
 use Rattle.tables.specs.Ranges.{meaning}
-use Rattle.sound.proofs.Pass.{Passing, pass-begins, pass-unfit, pass-twice, pass-new, pass-empty, pass_all, volume-small}
+use Rattle.sound.proofs.Pass.{Passing}
 use Rattle.sound.proofs.element.run_sound.Given as goal
 
 abbrev pub invariant-loop-p : goal.invariant-loop-p

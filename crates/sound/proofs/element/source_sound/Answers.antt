@@ -1,5 +1,5 @@
 -- `sound::element::source_sound` meets its contract. Assumes nothing.
-use Rattle.std.proofs.Common.{refl, rules}
+use Rattle.std.proofs.Common.{refl}
 use Rattle.rules.proofs.Ladder.{eq_is, eq-not}
 use Rattle.sound_head.proofs.Tests.{all-differ-stop, all-differ-go, all-last}
 use Rattle.sound.specs.Checks.{source_in}

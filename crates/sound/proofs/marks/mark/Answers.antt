@@ -1,7 +1,6 @@
 -- `sound::marks::mark` meets its contract. Assumes nothing.
 use Rattle.sound.specs.Checks.{marking}
 use Rattle.sound.proofs.Bits.{bit_is}
-use Rattle.std.proofs.Common.{rules}
 use Rattle.sound.proofs.marks.mark.Goals as goal
 
 pub returns : goal.returns

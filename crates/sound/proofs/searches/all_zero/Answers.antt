@@ -1,8 +1,7 @@
 -- `sound::searches::all_zero`: at the loop's head `fine` tells of those before i. Assumes nothing.
-use Rattle.sound.proofs.Gathered.{Gathered, gather-begins, gather-on, gather-ends}
-use Rattle.rules.specs.Tables.{search_size}
+use Rattle.sound.proofs.Gathered.{gather-begins, gather-on, gather-ends}
 use Rattle.rules.specs.Bytes.{byte}
-use Rattle.std.proofs.Common.{◌-◌, eqb, rules}
+use Rattle.std.proofs.Common.{rules}
 use Rattle.sound.proofs.searches.all_zero.Goals as goal
 
 pub loop-i-init : goal.loop-i-init

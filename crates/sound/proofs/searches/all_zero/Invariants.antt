@@ -1,8 +1,8 @@
 -- `sound::searches::all_zero`: at the loop's head `fine` tells of those before i. Assumes nothing.
-use Rattle.sound.proofs.Gathered.{Gathered, gather-begins, gather-on, gather-ends}
+use Rattle.sound.proofs.Gathered.{Gathered}
 use Rattle.rules.specs.Tables.{search_size}
 use Rattle.rules.specs.Bytes.{byte}
-use Rattle.std.proofs.Common.{◌-◌, eqb, rules}
+use Rattle.std.proofs.Common.{◌-◌, eqb}
 use Rattle.sound.proofs.searches.all_zero.Given as goal
 
 abbrev pub invariant-loop-i : goal.invariant-loop-i

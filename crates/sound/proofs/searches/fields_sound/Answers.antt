@@ -3,7 +3,7 @@ use Rattle.sound.specs.Checks.{fields_sound}
 use Rattle.sound_head.proofs.Tests.{all-le-stop, all-le-go, all-last}
 use Rattle.rules.specs.Tables.{behind_last, search_type, next_address}
 use Rattle.rules.specs.Bytes.{byte}
-use Rattle.std.proofs.Common.{ℕ, leb, ap, rules}
+use Rattle.std.proofs.Common.{ℕ, leb, ap}
 use Rattle.sound.proofs.searches.fields_sound.Goals as goal
 
 pub returns-then-search-gt-DRIVE : goal.returns-then-search-gt-DRIVE

@@ -4,7 +4,6 @@ use Rattle.sound_head.proofs.Tests.{all-eq-stop}
 use Rattle.rules.specs.Sound.{search_sound}
 use Rattle.rules.specs.Tables.{action}
 use Rattle.rules.specs.Bytes.{byte}
-use Rattle.std.proofs.Common.{rules}
 use Rattle.sound.proofs.searches.search_sound.Goals as goal
 
 pub returns-then-search-ne-SEARCH_SIZE : goal.returns-then-search-ne-SEARCH_SIZE

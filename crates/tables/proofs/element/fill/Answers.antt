@@ -1,5 +1,5 @@
 -- `tables::element::fill` meets its contract. Assumes nothing.
-use Rattle.std.proofs.Common.{arith, length-set, rules}
+use Rattle.std.proofs.Common.{arith, length-set}
 use Rattle.tables.proofs.Fields.{fill_is}
 use Rattle.tables.proofs.element.fill.Goals as goal
 

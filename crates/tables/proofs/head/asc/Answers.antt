@@ -1,7 +1,6 @@
 -- `tables::head::asc` meets its contract. Assumes nothing.
 use Rattle.rules.specs.Bytes.{byte}
 use Rattle.rules.specs.Tables.{asc}
-use Rattle.std.proofs.Common.{rules}
 use Rattle.tables.proofs.head.asc.Goals as goal
 
 pub returns : goal.returns

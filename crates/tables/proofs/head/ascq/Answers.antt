@@ -1,7 +1,6 @@
 -- `tables::head::ascq` meets its contract. Assumes nothing.
 use Rattle.rules.specs.Bytes.{byte}
 use Rattle.rules.specs.Tables.{ascq}
-use Rattle.std.proofs.Common.{rules}
 use Rattle.tables.proofs.head.ascq.Goals as goal
 
 pub returns : goal.returns

@@ -1,5 +1,5 @@
 -- `tables::head::attend` meets its contract. Assumes nothing.
-use Rattle.std.proofs.Common.{◌∙◌, rules}
+use Rattle.std.proofs.Common.{◌∙◌}
 use Rattle.rules.specs.Tables.{attended}
 use Rattle.tables.proofs.head.attend.Goals as goal
 

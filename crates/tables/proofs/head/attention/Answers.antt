@@ -1,7 +1,6 @@
 -- `tables::head::attention` meets its contract. Assumes nothing.
 use Rattle.rules.specs.Bytes.{byte}
 use Rattle.rules.specs.Tables.{attention}
-use Rattle.std.proofs.Common.{rules}
 use Rattle.tables.proofs.head.attention.Goals as goal
 
 pub returns : goal.returns

@@ -1,7 +1,6 @@
 -- `tables::head::attentionq` meets its contract. Assumes nothing.
 use Rattle.rules.specs.Bytes.{byte}
 use Rattle.rules.specs.Tables.{attentionq}
-use Rattle.std.proofs.Common.{rules}
 use Rattle.tables.proofs.head.attentionq.Goals as goal
 
 pub returns : goal.returns

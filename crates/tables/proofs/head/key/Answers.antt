@@ -1,7 +1,6 @@
 -- `tables::head::key` meets its contract. Assumes nothing.
 use Rattle.rules.specs.Bytes.{byte}
 use Rattle.rules.specs.Tables.{key}
-use Rattle.std.proofs.Common.{rules}
 use Rattle.tables.proofs.head.key.Goals as goal
 
 pub returns : goal.returns

@@ -1,5 +1,5 @@
 -- `tables::head::note` meets its contract. Assumes nothing.
-use Rattle.std.proofs.Common.{◌∙◌, rules}
+use Rattle.std.proofs.Common.{◌∙◌}
 use Rattle.rules.specs.Tables.{sensed}
 use Rattle.tables.proofs.head.note.Goals as goal
 

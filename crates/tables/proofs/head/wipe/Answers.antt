@@ -1,5 +1,5 @@
 -- `tables::head::wipe` meets its contract. Assumes nothing.
-use Rattle.std.proofs.Common.{◌∙◌, rules}
+use Rattle.std.proofs.Common.{◌∙◌}
 use Rattle.rules.specs.Tables.{sensed}
 use Rattle.tables.proofs.head.wipe.Goals as goal
 

@@ -1,6 +1,5 @@
 -- `tables::mask::allowing` meets its contract. Assumes nothing.
 use Rattle.tables.proofs.Masks.{bit-pos, bit_le, allow-set, allow-clear}
-use Rattle.std.proofs.Common.{rules}
 use Rattle.tables.proofs.mask.allowing.Goals as goal
 
 pub nonzero_div-mask : goal.nonzero_div-mask

@@ -1,6 +1,5 @@
 -- `tables::mask::host_bit` meets its contract. Assumes nothing.
 use Rattle.tables.proofs.Masks.{bit_is}
-use Rattle.std.proofs.Common.{rules}
 use Rattle.tables.proofs.mask.host_bit.Goals as goal
 
 pub returns : goal.returns
