@@ -10,7 +10,7 @@ use lib.Dec.{eqb}
 use Rattle.rules.specs.Choice.{when}
 use Rattle.rules.specs.Tables.{Tables}
 use Rattle.rules.specs.Command.{Call, Command}
-use Rattle.rules.specs.Log.{LINE-FEED, first_of, Line, Other, Entry, event_of, entry_of}
+use Rattle.rules.specs.Log.{LINE-FEED, first_of, Line, Entry, event_of, entry_of}
 use Rattle.rules.specs.Replay.{idle, turn_on, turn, after_line}
 use Rattle.rules.proofs.Ladder.{on, eq_is, eq-not, when-of}
 use Rattle.log_line.specs.declared.Read.{Read}

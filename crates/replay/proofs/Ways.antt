@@ -154,6 +154,19 @@ pub record Going (head₀ elements₀ tags generations masks search₀ log : Lis
   pub stands : Every head₀ elements₀ tags generations masks search₀
       (λ rest. Stands (lent head₀ elements₀ (searching rest search₀)) log expected budget (lent head elements (searching rest search)) lines place next)
 
+-- what was kept until a line that was then applied
+module _ (head₀ elements₀ tags generations masks search₀ log : List ℕ) (expected budget : ℕ) (runs : List Range) (head elements search block list : List ℕ) (lines place next : ℕ)
+    (g : Going head₀ elements₀ tags generations masks search₀ log expected budget runs head elements search block list lines place next)
+    (k : Kept runs head₀ elements₀ tags generations masks search₀) (more : lines < budget) (some : place ≡ length log → ⊥) where
+  pub went_on : (text : List ℕ) → text ≡ drop place log → (r : Turned) (head' elements' search' : List ℕ)
+      → ((rest : Rest) → Given rest tags generations masks → sound (lent head elements (searching rest search)) ≡ true
+      → turned r (lent head' elements' (searching rest search')) ≡ turn (lent head elements (searching rest search)) next text)
+      → (n : ℕ) → r ≡ Applied n → Taken r text → Went log place next n
+  went_on text te r head' elements' search' after n i takes =
+      went (lent head₀ elements₀ (searching k.rest search₀)) log expected budget (lent head elements (searching k.rest search)) lines place next
+      (g.stands k.rest k.given k.sound-now) more g.inside some text te r (lent head' elements' (searching k.rest search'))
+      (after k.rest k.given (g.sound-still k.rest k.given k.sound-now)) n i takes
+
 -- ---- the whole
 
 -- what the first line finds

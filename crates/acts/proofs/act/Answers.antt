@@ -11,7 +11,6 @@ use Rattle.operation.specs.Meaning.{meaning}
 use Rattle.operation.proofs.Lengths.{sized}
 use Rattle.acts.proofs.Supply.{findable}
 use Rattle.acts.proofs.Chosen.{acts}
-use borrow.Author.Rules.{rules}
 use Rattle.acts.proofs.act.Goals as goal
 
 pub good-requires : goal.good-requires

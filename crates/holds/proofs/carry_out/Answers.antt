@@ -1,6 +1,5 @@
 -- `holds::carry_out` meets its contract. Assumes nothing.
 use mathlib.Core.Path.{sym, ap}
-use borrow.Author.Rules.{rules}
 use Rattle.rules.proofs.Rungs.{ends_as}
 use Rattle.holds.specs.Judged.{meaning}
 use Rattle.holds.proofs.Ends.{good-with, grant-ends}

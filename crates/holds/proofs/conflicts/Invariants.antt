@@ -1,13 +1,10 @@
 -- `holds::conflicts`: the descriptors before k name no taken element, nor do the places before p. Assumes nothing.
 use Prim.Native.Nat.{◌≤◌, ◌-◌}
-use native.Mathlib.Omega.{arith}
-use mathlib.Core.Path.{◌≡◌, refl, sym, ◌∙◌}
+use mathlib.Core.Path.{◌≡◌}
 use mathlib.Core.Bool.{false}
-use borrow.Author.Rules.{rules}
-use Rattle.rules.proofs.Loops.{Failed, failed-none, failed-more, found-there, found_nowhere}
+use Rattle.rules.proofs.Loops.{Failed}
 use Rattle.rules.specs.Holds.{taken}
 use Rattle.holds.specs.Judged.{taken_in}
-use Rattle.holds.proofs.Turns.{takes_one, takes_none}
 use Rattle.holds.proofs.conflicts.Given as goal
 
 abbrev pub invariant-loop-p : goal.invariant-loop-p

@@ -1,10 +1,9 @@
 -- `holds::grant` meets its contract. Assumes nothing.
-use Prim.Native.Nat.{◌≤◌, ◌-◌}
 use native.Mathlib.Omega.{arith}
 use borrow.Author.Rules.{rules}
-use Rattle.rules.proofs.Loops.{Turned, turned_none, turned_more, turned-all}
+use Rattle.rules.proofs.Loops.{turned_none, turned_more, turned-all}
 use Rattle.rules.specs.Tables.{places}
-use Rattle.holds.specs.Judged.{settled_at, settled}
+use Rattle.holds.specs.Judged.{settled}
 use Rattle.holds.proofs.grant.Goals as goal
 
 pub loop-p-init : goal.loop-p-init

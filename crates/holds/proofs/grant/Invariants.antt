@@ -1,10 +1,7 @@
 -- `holds::grant` meets its contract. Assumes nothing.
 use Prim.Native.Nat.{◌≤◌, ◌-◌}
-use native.Mathlib.Omega.{arith}
-use borrow.Author.Rules.{rules}
-use Rattle.rules.proofs.Loops.{Turned, turned_none, turned_more, turned-all}
-use Rattle.rules.specs.Tables.{places}
-use Rattle.holds.specs.Judged.{settled_at, settled}
+use Rattle.rules.proofs.Loops.{Turned}
+use Rattle.holds.specs.Judged.{settled_at}
 use Rattle.holds.proofs.grant.Given as goal
 
 abbrev pub invariant-loop-p : goal.invariant-loop-p

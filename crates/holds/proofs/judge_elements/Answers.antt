@@ -1,10 +1,7 @@
 -- `holds::judge_elements`: at the loop's head the first k descriptors had no fault, what they name is marked, and where it begins and ends is
 -- kept. Assumes nothing.
-use Prim.Native.Nat.{◌-◌}
 use native.Mathlib.Omega.{arith}
-use borrow.Author.Rules.{rules}
-use Rattle.tables.specs.Ranges.{laid}
-use Rattle.holds.proofs.Turns.{Turning, turn-begins, turn-wrong, turn_on, turn-bounded, turn-taken, turn-free, turn-marks, length-wrong, length-right, length_most}
+use Rattle.holds.proofs.Turns.{turn-begins, turn-wrong, turn_on, turn-bounded, turn-taken, turn-free, turn-marks, length-wrong, length-right, length_most}
 use Rattle.holds.proofs.judge_elements.Goals as goal
 
 pub returns-then-wrong_length : goal.returns-then-wrong_length

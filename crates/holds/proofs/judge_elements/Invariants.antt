@@ -1,10 +1,8 @@
 -- `holds::judge_elements`: at the loop's head the first k descriptors had no fault, what they name is marked, and where it begins and ends is
 -- kept. Assumes nothing.
 use Prim.Native.Nat.{◌-◌}
-use native.Mathlib.Omega.{arith}
-use borrow.Author.Rules.{rules}
 use Rattle.tables.specs.Ranges.{laid}
-use Rattle.holds.proofs.Turns.{Turning, turn-begins, turn-wrong, turn_on, turn-bounded, turn-taken, turn-free, turn-marks, length-wrong, length-right, length_most}
+use Rattle.holds.proofs.Turns.{Turning}
 use Rattle.holds.proofs.judge_elements.Given as goal
 
 abbrev pub invariant-loop-k : goal.invariant-loop-k

@@ -1,5 +1,4 @@
 -- `holds::new_mask` meets its contract. Assumes nothing.
-use borrow.Author.Rules.{rules}
 use Rattle.rules.specs.Bytes.{byte}
 use Rattle.rules.specs.Holds.{new_mask}
 use Rattle.rules.proofs.Ladder.{ladder}

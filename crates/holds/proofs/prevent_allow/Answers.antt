@@ -1,7 +1,6 @@
 -- `holds::prevent_allow` meets its contract. Assumes nothing.
 use mathlib.Core.Path.{refl}
 use mathlib.Core.List.{[], ◌∷◌}
-use borrow.Author.Rules.{rules}
 use Rattle.rules.specs.Tables.{Prevent, in_head, in_elements, change, changes}
 use Rattle.holds.proofs.Ends.{both, good-with, prevents}
 use Rattle.holds.proofs.prevent_allow.Goals as goal

@@ -1,7 +1,6 @@
 -- `holds::release` meets its contract. Assumes nothing.
 use mathlib.Core.Path.{refl}
 use mathlib.Core.List.{[], ◌∷◌}
-use borrow.Author.Rules.{rules}
 use Rattle.rules.proofs.Rungs.{ends_as}
 use Rattle.rules.specs.Bytes.{byte}
 use Rattle.rules.specs.Tables.{Free, Under, in_head, in_elements, change, changes}

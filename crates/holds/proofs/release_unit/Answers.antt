@@ -1,7 +1,6 @@
 -- `holds::release_unit` meets its contract. Assumes nothing.
 use mathlib.Core.Path.{refl}
 use mathlib.Core.List.{[], ◌∷◌}
-use borrow.Author.Rules.{rules}
 use Rattle.rules.specs.Tables.{HoldUnit, Free, Every, in_head, in_elements, change, changes}
 use Rattle.holds.proofs.Ends.{both, good-with, unit-own, unit-not}
 use Rattle.holds.proofs.release_unit.Goals as goal

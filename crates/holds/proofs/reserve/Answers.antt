@@ -1,5 +1,4 @@
 -- `holds::reserve` meets its contract. Assumes nothing.
-use borrow.Author.Rules.{rules}
 use Rattle.rules.proofs.Rungs.{ends_as}
 use Rattle.rules.specs.Bytes.{byte}
 use Rattle.holds.proofs.Meaning.{same-roster, lays-out, reserves-unit, reserves-elements}

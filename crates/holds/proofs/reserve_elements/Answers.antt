@@ -1,7 +1,6 @@
 -- `holds::reserve_elements` meets its contract. Assumes nothing.
 use native.Mathlib.Omega.{arith}
 use mathlib.Core.Path.{ap}
-use borrow.Author.Rules.{rules}
 use Rattle.rules.proofs.Rungs.{ends_as}
 use Rattle.rules.specs.Tables.{places}
 use Rattle.lists.proofs.Marks.{marks_begin}

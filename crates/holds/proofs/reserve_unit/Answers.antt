@@ -1,7 +1,6 @@
 -- `holds::reserve_unit` meets its contract. Assumes nothing.
 use mathlib.Core.Path.{refl}
 use mathlib.Core.List.{[], ◌∷◌}
-use borrow.Author.Rules.{rules}
 use Rattle.rules.proofs.Rungs.{ends_as}
 use Rattle.rules.specs.Tables.{HoldUnit, in_head, in_elements, change, changes}
 use Rattle.holds.proofs.Ends.{both, good-with}

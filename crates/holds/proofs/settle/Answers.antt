@@ -1,5 +1,4 @@
 -- `holds::settle` meets its contract. Assumes nothing.
-use borrow.Author.Rules.{rules}
 use Rattle.rules.proofs.Ladder.{differ-is, differ-not}
 use Rattle.lists.specs.Named.{marked}
 use Rattle.holds.specs.Judged.{settled_at}

@@ -1,5 +1,4 @@
 -- `holds::taken_at` meets its contract. Assumes nothing.
-use borrow.Author.Rules.{rules}
 use Rattle.rules.specs.Choice.{differ}
 use Rattle.holds.proofs.Turns.{taken_own, taken_not}
 use Rattle.holds.proofs.taken_at.Goals as goal

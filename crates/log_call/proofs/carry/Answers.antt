@@ -4,7 +4,6 @@ use Rattle.rules.specs.Tables.{lent}
 use Rattle.rules.specs.Replay.{turn_on}
 use Rattle.serving.proofs.Supply.{importable, search-room}
 use Rattle.log_call.proofs.Lines.{of-event, of-command}
-use borrow.Author.Rules.{rules}
 use Rattle.log_call.proofs.carry.Goals as goal
 
 pub occur-requires : goal.occur-requires

@@ -1,5 +1,4 @@
 -- `log_call::event_of` meets its contract. Assumes nothing.
-use borrow.Author.Rules.{rules}
 use Rattle.rules.specs.Bytes.{byte}
 use Rattle.log_call.proofs.Events.{long-event, short-import, is-import, short-export, is-export, no-event, long-reset, is-reset}
 use Rattle.log_call.proofs.event_of.Goals as goal

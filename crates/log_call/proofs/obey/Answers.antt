@@ -6,7 +6,6 @@ use Rattle.operation.proofs.Lengths.{some}
 use Rattle.acts.proofs.Supply.{suited, countable, listable-by}
 use Rattle.serving.proofs.Ends.{fitting, fit_is}
 use Rattle.log_call.proofs.Commands.{no-host, no_block, no-list, obeyed}
-use borrow.Author.Rules.{rules}
 use Rattle.log_call.proofs.obey.Goals as goal
 
 pub returns-then-not-known_host : goal.returns-then-not-known_host

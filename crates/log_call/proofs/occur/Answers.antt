@@ -1,5 +1,4 @@
 -- `log_call::occur` meets its contract. Assumes nothing.
-use borrow.Author.Rules.{rules}
 use Rattle.rules.specs.Tables.{lent, searching}
 use Rattle.log_call.proofs.Events.{nothing-done, import-done, export-done, reset-done}
 use Rattle.log_call.proofs.occur.Goals as goal

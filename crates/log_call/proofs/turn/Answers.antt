@@ -2,7 +2,6 @@
 use native.Mathlib.Omega.{arith}
 use Rattle.rules.specs.Tables.{lent}
 use Rattle.log_call.proofs.Lines.{stopped-takes, held, block-long, list-long, takes, another-form, another-number, not_carried, was-carried}
-use borrow.Author.Rules.{rules}
 use Rattle.log_call.proofs.turn.Goals as goal
 
 pub returns-then-number-expected : goal.returns-then-number-expected

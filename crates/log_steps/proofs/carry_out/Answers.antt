@@ -5,7 +5,6 @@ use Rattle.order.specs.Ending.{reason}
 use Rattle.admission.specs.Admitting.{on_admission}
 use Rattle.admission.proofs.Admissions.{is-pending}
 use Rattle.log_steps.proofs.Ends.{left_by, admits}
-use borrow.Author.Rules.{rules}
 use Rattle.log_steps.proofs.carry_out.Goals as goal
 
 pub report-requires : goal.report-requires

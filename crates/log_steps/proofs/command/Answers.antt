@@ -7,7 +7,6 @@ use Rattle.order.specs.Ending.{reason}
 use Rattle.operation.specs.Meaning.{meaning}
 use Rattle.operation.proofs.Lengths.{sized}
 use Rattle.log_steps.proofs.Ends.{left_by, listed, paged, acts}
-use borrow.Author.Rules.{rules}
 use Rattle.log_steps.proofs.command.Goals as goal
 
 pub reserve-requires : goal.reserve-requires

@@ -2,7 +2,6 @@
 use mathlib.Core.Path.{sym, ◌∙◌}
 use Rattle.rules.specs.Tables.{lent}
 use Rattle.log_steps.proofs.Ends.{attention-cleared, sense-cleared}
-use borrow.Author.Rules.{rules}
 use Rattle.log_steps.proofs.forget.Goals as goal
 
 pub returns-then-tells_attention : goal.returns-then-tells_attention

@@ -2,7 +2,6 @@
 use borrow.Author.Tests.{not-true, not-false}
 use Rattle.rules.specs.Tables.{lent}
 use Rattle.replay.proofs.Ways.{told-ends, first-kept, unsound, replayed}
-use borrow.Author.Rules.{rules}
 use Rattle.replay.proofs.replay.Goals as goal
 
 pub returns-then-not-checked : goal.returns-then-not-checked

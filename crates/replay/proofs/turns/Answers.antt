@@ -1,11 +1,10 @@
 -- `replay::turns` meets its contract. Assumes nothing.
 use borrow.Author.Rules.{rules}
-use Prim.Native.Nat.{◌-◌}
 use native.Mathlib.Omega.{arith}
 use mathlib.Core.Path.{refl, sym, ◌∙◌}
 use Rattle.rules.specs.Tables.{lent, searching}
 use Rattle.log_line.proofs.Text.{tail}
-use Rattle.replay.proofs.Ways.{told-ends, starts, all_done, log-ends, ten, Went, went, onward, still-sound, still-runs, Going}
+use Rattle.replay.proofs.Ways.{told-ends, starts, all_done, log-ends, ten, went_on, onward, still-sound, still-runs}
 use Rattle.replay.proofs.turns.Goals as goal
 
 pub loop-lines-init : goal.loop-lines-init
@@ -72,13 +71,7 @@ returns-in-Stopped c =
 
 pub overflow_add-place : goal.overflow_add-place
 overflow_add-place c =
-    let l = c.loop-lines in
-    let log = c.args.log.now in
-    let k = c.requires.kept in
-    let still = l.invariant.sound-still k.rest k.given k.sound-now in
-    let w : Went log l.place l.next c.in-Applied.taken
-    = went (lent _ _ _) log _ _ (lent _ _ _) _ _ _ (l.invariant.stands k.rest k.given k.sound-now) c.loop-lines-test.true l.invariant.inside c.if-place-log.false _ (tail log l.place) _ (lent _ _ _) (c.turn.ensures.search_after k.rest k.given still) _ c.in-Applied.is c.turn.ensures.taken in
-    omega (arith, w.inside)
+    omega (arith, (went_on _ _ _ _ _ _ _ _ _ _ _ _ _ _ _ _ _ _ c.loop-lines.invariant c.requires.kept c.loop-lines-test.true c.if-place-log.false _ (tail c.args.log.now c.loop-lines.place) _ _ _ _ c.turn.ensures.search_after _ c.in-Applied.is c.turn.ensures.taken).inside)
 
 pub overflow_add-lines : goal.overflow_add-lines
 overflow_add-lines c =
@@ -86,13 +79,7 @@ overflow_add-lines c =
 
 pub overflow_add-next : goal.overflow_add-next
 overflow_add-next c =
-    let l = c.loop-lines in
-    let log = c.args.log.now in
-    let k = c.requires.kept in
-    let still = l.invariant.sound-still k.rest k.given k.sound-now in
-    let w : Went log l.place l.next c.in-Applied.taken
-    = went (lent _ _ _) log _ _ (lent _ _ _) _ _ _ (l.invariant.stands k.rest k.given k.sound-now) c.loop-lines-test.true l.invariant.inside c.if-place-log.false _ (tail log l.place) _ (lent _ _ _) (c.turn.ensures.search_after k.rest k.given still) _ c.in-Applied.is c.turn.ensures.taken in
-    omega (arith, w.low)
+    omega (arith, (went_on _ _ _ _ _ _ _ _ _ _ _ _ _ _ _ _ _ _ c.loop-lines.invariant c.requires.kept c.loop-lines-test.true c.if-place-log.false _ (tail c.args.log.now c.loop-lines.place) _ _ _ _ c.turn.ensures.search_after _ c.in-Applied.is c.turn.ensures.taken).low)
 
 pub loop-lines-smaller : goal.loop-lines-smaller
 loop-lines-smaller c =
@@ -103,9 +90,6 @@ loop-lines-preserved c =
     let l = c.loop-lines in
     let log = c.args.log.now in
     let k = c.requires.kept in
-    let still = l.invariant.sound-still k.rest k.given k.sound-now in
-    let w : Went log l.place l.next c.in-Applied.taken
-    = went (lent _ _ _) log _ _ (lent _ _ _) _ _ _ (l.invariant.stands k.rest k.given k.sound-now) c.loop-lines-test.true l.invariant.inside c.if-place-log.false _ (tail log l.place) _ (lent _ _ _) (c.turn.ensures.search_after k.rest k.given still) _ c.in-Applied.is c.turn.ensures.taken in
     record {
       kept-head = c.turn.auto.head ∙ l.invariant.kept-head;
       kept-elements = c.turn.auto.elements ∙ l.invariant.kept-elements;
@@ -115,7 +99,7 @@ loop-lines-preserved c =
       block_room = c.turn.auto.block ∙ l.invariant.block_room;
       list-room = c.turn.auto.list ∙ l.invariant.list-room;
       within-budget = omega (arith, c.loop-lines-test.true);
-      inside = w.inside;
+      inside = (went_on _ _ _ _ _ _ _ _ _ _ _ _ _ _ _ _ _ _ c.loop-lines.invariant c.requires.kept c.loop-lines-test.true c.if-place-log.false _ (tail c.args.log.now c.loop-lines.place) _ _ _ _ c.turn.ensures.search_after _ c.in-Applied.is c.turn.ensures.taken).inside;
       stands = λ rest g s. onward (lent _ _ (searching rest _)) log _ _ (lent _ _ (searching rest _)) _ _ _ (l.invariant.stands rest g s) c.loop-lines-test.true l.invariant.inside c.if-place-log.false _ (tail log l.place) _ (lent _ _ (searching rest _)) (c.turn.ensures.search_after rest g (l.invariant.sound-still rest g s)) _ c.in-Applied.is c.turn.ensures.taken;
     }
 

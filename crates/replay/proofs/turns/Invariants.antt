@@ -1,11 +1,6 @@
 -- `replay::turns` meets its contract. Assumes nothing.
-use borrow.Author.Rules.{rules}
 use Prim.Native.Nat.{◌-◌}
-use native.Mathlib.Omega.{arith}
-use mathlib.Core.Path.{refl, sym, ◌∙◌}
-use Rattle.rules.specs.Tables.{lent, searching}
-use Rattle.log_line.proofs.Text.{tail}
-use Rattle.replay.proofs.Ways.{told-ends, starts, all_done, log-ends, ten, Went, went, onward, still-sound, still-runs, Going}
+use Rattle.replay.proofs.Ways.{Going}
 use Rattle.replay.proofs.turns.Given as goal
 
 abbrev pub invariant-loop-lines : goal.invariant-loop-lines

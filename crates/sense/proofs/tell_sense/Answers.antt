@@ -2,7 +2,6 @@
 use Rattle.rules.specs.Tables.{NewSense, in_head}
 use Rattle.sense.specs.Judged.{meaning}
 use Rattle.sense.proofs.Telling.{tells}
-use borrow.Author.Rules.{rules}
 use Rattle.sense.proofs.tell_sense.Goals as goal
 
 pub returns : goal.returns

@@ -4,7 +4,6 @@ use borrow.Author.Tests.{eq-eqb, ne_eqb}
 use Rattle.rules.specs.Choice.{differ}
 use Rattle.rules.specs.Sense.{tells_attention}
 use Rattle.sense.proofs.Tests.{all-fails, all-last}
-use borrow.Author.Rules.{rules}
 use Rattle.sense.proofs.tells_attention.Goals as goal
 
 pub returns-then-key-ne0 : goal.returns-then-key-ne0

@@ -11,7 +11,6 @@ use Rattle.operation.proofs.Lengths.{some}
 use Rattle.acts.proofs.Supply.{suited}
 use Rattle.serving.proofs.Supply.{told_of, lends-all}
 use Rattle.serving.proofs.Ends.{number-ends, fitting, fit_is, steps-are, command-is}
-use borrow.Author.Rules.{rules}
 use Rattle.serving.proofs.command.Goals as goal
 
 pub returns-then-not-whole : goal.returns-then-not-whole

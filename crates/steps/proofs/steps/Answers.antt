@@ -4,7 +4,6 @@ use Rattle.rules.proofs.Rungs.{ends_as}
 use Rattle.order.specs.Ending.{reason}
 use Rattle.admission.proofs.Admissions.{is-pending, is_open}
 use Rattle.steps.proofs.Ends.{pending-ends, held-ends, faulty-ends, open-ends}
-use borrow.Author.Rules.{rules}
 use Rattle.steps.proofs.steps.Goals as goal
 
 pub judge-requires : goal.judge-requires

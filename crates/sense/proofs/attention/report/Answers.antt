@@ -4,7 +4,6 @@ use Rattle.rules.specs.Bytes.{put}
 use Rattle.rules.specs.Tables.{changes, change, in_head}
 use Rattle.rules.specs.Order.{outcome, after_attention}
 use borrow.Author.Tests.{ne_eqb}
-use borrow.Author.Rules.{rules}
 use Rattle.sense.proofs.attention.report.Goals as goal
 
 pub returns : goal.returns

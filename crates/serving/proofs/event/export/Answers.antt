@@ -6,7 +6,6 @@ use Rattle.rules.specs.Events.{exporting, at_port}
 use Rattle.rules.proofs.Ladder.{no}
 use Rattle.serving.proofs.Supply.{ported}
 use Rattle.serving.proofs.Ends.{number-ends, export_is}
-use borrow.Author.Rules.{rules}
 use Rattle.serving.proofs.event.export.Goals as goal
 
 pub returns-then-not-checked : goal.returns-then-not-checked

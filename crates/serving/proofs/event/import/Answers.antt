@@ -6,7 +6,6 @@ use Rattle.rules.specs.Events.{importing, at_port}
 use Rattle.rules.proofs.Ladder.{no}
 use Rattle.serving.proofs.Supply.{importable}
 use Rattle.serving.proofs.Ends.{number-ends, import-is}
-use borrow.Author.Rules.{rules}
 use Rattle.serving.proofs.event.import.Goals as goal
 
 pub returns-then-not-checked : goal.returns-then-not-checked

@@ -7,7 +7,6 @@ use Rattle.rules.proofs.Ladder.{no}
 use Rattle.acts.proofs.Supply.{head-room}
 use Rattle.serving.proofs.Supply.{told_of, search-room}
 use Rattle.serving.proofs.Ends.{number-ends, reset-is}
-use borrow.Author.Rules.{rules}
 use Rattle.serving.proofs.event.reset.Goals as goal
 
 pub returns-then-not-checked : goal.returns-then-not-checked
