@@ -26,17 +26,17 @@ pub enter-requires : goal.enter-requires
 enter-requires c = tt
 
 pub shape_of-head : goal.shape_of-head
-shape_of-head c = c.enter.auto.answer.1.0
+shape_of-head c = c.enter.auto.head
 
 pub shape_of-elements : goal.shape_of-elements
-shape_of-elements c = c.enter.auto.answer.1.1.0
+shape_of-elements c = c.enter.auto.elements
 
 pub shape_of-search : goal.shape_of-search
-shape_of-search c = c.enter.auto.answer.1.1.1.1.1.1.1.0
+shape_of-search c = c.enter.auto.search
 
 pub shape_of-answer : goal.shape_of-answer
 shape_of-answer c =
-    c.enter.auto.answer.1.1.1.1.1.1.1.1.1.1.0 ∙ c.fill.auto.xs
+    c.enter.auto.answer ∙ c.fill.auto.xs
 
 pub returns : goal.returns
 returns c =

@@ -31,7 +31,7 @@ pub shape_of-elements : goal.shape_of-elements
 shape_of-elements c = c.smc_replay.auto.elements
 
 pub shape_of-search : goal.shape_of-search
-shape_of-search c = c.smc_replay.auto.search.1.1.1.1.0
+shape_of-search c = c.smc_replay.auto.search
 
 pub returns : goal.returns
 returns c =
