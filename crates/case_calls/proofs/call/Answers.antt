@@ -11,7 +11,7 @@ answered-requires c = tt
 
 pub shape_of-room : goal.shape_of-room
 shape_of-room c =
-    c.answered.auto.1.1.1.0 ∙ c.on_copies-reply.auto.answer.1.0
+    c.answered.auto.room ∙ c.on_copies-reply.auto.room
 
 pub returns : goal.returns
 returns c = tt

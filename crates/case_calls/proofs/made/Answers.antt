@@ -21,28 +21,27 @@ entered-requires c = tt
 
 pub shape_of-head : goal.shape_of-head
 shape_of-head c =
-    as_long _ _ _ c.least-h.ensures.value c.entered.new.search c.entered.auto.search
+    as_long _ _ _ c.least-h.ensures.value c.entered.new.head c.entered.auto.head
 
 pub shape_of-elements : goal.shape_of-elements
 shape_of-elements c =
-    as_long _ _ _ c.least-e.ensures.value c.entered.new.answer.0 c.entered.auto.answer.0
+    as_long _ _ _ c.least-e.ensures.value c.entered.new.elements c.entered.auto.elements
 
 pub shape_of-search : goal.shape_of-search
 shape_of-search c =
-    as_long _ _ _ c.least-s.ensures.value c.entered.new.answer.1.1.0 c.entered.auto.answer.1.1.0
+    as_long _ _ _ c.least-s.ensures.value c.entered.new.search c.entered.auto.search
 
 pub shape_of-answer : goal.shape_of-answer
 shape_of-answer c =
-    as_long _ _ _ c.least-b.ensures.value c.entered.new.answer.1.1.1.0 c.entered.auto.answer.1.1.1.0
+    as_long _ _ _ c.least-b.ensures.value c.entered.new.answer c.entered.auto.answer
 
 pub returns : goal.returns
 returns c =
-    let kept = c.entered.auto.1.1 in
     on-fronts _ _ _ _ _ _ _ _ _ _ _ _ _ _ _ _ _ _ _ _ _ _ _
-    (given _ _ _ c.least-h.ensures.value _ kept.0)
-    (given _ _ _ c.least-e.ensures.value _ kept.1.0)
-    (given _ _ _ c.least-s.ensures.value _ kept.1.1.1.0)
-    (given _ _ _ c.least-b.ensures.value _ kept.1.1.1.1.0)
+    (given _ _ _ c.least-h.ensures.value _ c.entered.auto.head)
+    (given _ _ _ c.least-e.ensures.value _ c.entered.auto.elements)
+    (given _ _ _ c.least-s.ensures.value _ c.entered.auto.search)
+    (given _ _ _ c.least-b.ensures.value _ c.entered.auto.answer)
     (front _ _ _ c.least-h.ensures.value)
     (front _ _ _ c.least-e.ensures.value)
     (front _ _ _ c.least-s.ensures.value)

@@ -14,11 +14,11 @@ take_back-requires c = tt
 
 pub shape_of-room : goal.shape_of-room
 shape_of-room c =
-    c.take_back.auto.1.0 ∙ c.lend.auto.room
+    c.take_back.auto.room ∙ c.lend.auto.room
 
 pub shape_of-answer : goal.shape_of-answer
 shape_of-answer c =
-    c.made-reply.auto.answer.1.1.1.0
+    c.made-reply.auto.answer
 
 pub returns : goal.returns
 returns c = tt
