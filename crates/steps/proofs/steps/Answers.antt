@@ -1,4 +1,5 @@
 -- `steps::steps` meets its contract. Assumes nothing.
+use Rattle.std.proofs.Common.{rules}
 use Rattle.rules.specs.Tables.{lent, bare}
 use Rattle.rules.proofs.Rungs.{ends_as}
 use Rattle.order.specs.Ending.{reason}
@@ -36,7 +37,7 @@ returns-in-Pending c =
 
 pub returns-in-Held : goal.returns-in-Held
 returns-in-Held c =
-    λ rest lends. ends_as _ _ (c.conflict.ensures _ _ _) (held-ends _ (lent _ _ _) _ _ _ _ _ c.judge.ensures c.in-Held.is)
+    λ rest lends. search (rules, ends_as, held-ends)
 
 pub returns-in-Faulty : goal.returns-in-Faulty
 unfolding reason
