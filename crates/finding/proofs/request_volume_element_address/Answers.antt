@@ -1,5 +1,6 @@
 -- `finding::request_volume_element_address` meets its contract. Assumes nothing.
 use Prim.Native.Nat.{ℕ}
+use Rattle.std.proofs.Common.{rules}
 use native.Mathlib.Omega.{arith}
 use mathlib.Core.Path.{refl}
 use lib.ListN.{length-replicate}
@@ -49,4 +50,4 @@ returns c = λ rest lends.
     ends-good (lent _ _ (searching rest _)) _ _ _ s.reads.runs-are (λ e. omega (arith, e, length-replicate {A = ℕ} 512 0))
     (c.mark_found.ensures _ (record { elements-is = refl; tags-is = lends.tags-is; search_is = refl })) _ _ _ _ c.wipe.ensures c.put_next.ensures
     (rw (c.query_of-q.ensures.value, c.word_at-most.ensures, c.word_at-room.ensures, c.triple_at-from.ensures, ← lends.tags-is, ← lends.blank-is) at c.list-told.ensures.next_value.0)
-    _ _ _ (rw (lends.tags-is, lends.blank-is) answered) c.if-number-ne0.false
+    _ _ _ (rw (lends.tags-is, lends.blank-is) answered) (search rules)

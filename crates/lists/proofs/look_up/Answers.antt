@@ -1,5 +1,6 @@
 -- `lists::look_up` meets its contract. Assumes nothing.
 use native.Mathlib.Omega.{arith}
+use Rattle.std.proofs.Common.{rules}
 use Rattle.rules.specs.Holds.{descriptors}
 use Rattle.tables.proofs.LookUp.{at-below}
 use Rattle.lists.proofs.Faults.{look-reserved, look-unknown, look-many, look-named}
@@ -30,4 +31,4 @@ returns-then-total-end c =
 
 pub returns : goal.returns
 returns c =
-    look-named _ _ _ _ c.read_at-d.ensures c.if-d-ne0.false _ c.find.ensures _ _ _ c.in-At.is c.total-total.ensures.value c.end_of-end.ensures c.if-total-end.false
+    look-named _ _ _ _ c.read_at-d.ensures (search rules) _ c.find.ensures _ _ _ c.in-At.is c.total-total.ensures.value c.end_of-end.ensures c.if-total-end.false

@@ -1,5 +1,6 @@
 -- `serving::command` meets its contract. Assumes nothing.
 use native.Mathlib.Omega.{arith}
+use Rattle.std.proofs.Common.{rules}
 use mathlib.Core.Path.{refl, sym, ◌∙◌}
 use Rattle.rules.specs.Bytes.{byte}
 use Rattle.rules.specs.Tables.{lent}
@@ -23,8 +24,8 @@ returns-then-not-whole c =
 pub returns-then-not-known : goal.returns-then-not-known
 unfolding judge judged after_numbers byte
 returns-then-not-known c =
-    number-ends (lent _ _ _) _ 2 _ _ c.numbered-then-not-known.ensures
-    (yes _ _ _ _ _ c.check-checked.ensures.sound_value c.if-not-whole.false
+    number-ends (lent _ _ _) _ 2 _ _ (search rules)
+    (yes _ _ _ _ _ c.check-checked.ensures.sound_value (search rules)
     (no _ _ _ _ _ c.known_host-known.ensures c.if-not-known.true refl))
     ∙ command-is _ _ _ _ _
 

@@ -1,4 +1,5 @@
 -- `sound::searches::search_sound` meets its contract. Assumes nothing.
+use Rattle.std.proofs.Common.{rules}
 use Rattle.sound.proofs.Searching.{by-fields, by-zeros}
 use Rattle.sound_head.proofs.Tests.{all-eq-stop}
 use Rattle.rules.specs.Sound.{search_sound}
@@ -13,9 +14,9 @@ returns-then-search-ne-SEARCH_SIZE c = all-eq-stop _ _ _ c.if-search-ne-SEARCH_S
 pub returns-then-known : goal.returns-then-known
 unfolding action byte
 returns-then-known c =
-    by-fields _ c.if-search-ne-SEARCH_SIZE.false _ c.known.ensures _ c.if-known.true c.fields_sound.ensures
+    by-fields _ (search rules) _ c.known.ensures _ c.if-known.true c.fields_sound.ensures
 
 pub returns : goal.returns
 unfolding action byte
 returns c =
-    by-zeros _ c.if-search-ne-SEARCH_SIZE.false _ c.known.ensures _ c.if-known.false c.all_zero.ensures
+    by-zeros _ (search rules) _ c.known.ensures _ c.if-known.false c.all_zero.ensures
