@@ -6,21 +6,23 @@ use mathlib.Core.Logic.{◌≢◌}
 use mathlib.Core.Bool.{Bool, true, false, not}
 use mathlib.Core.List.{List}
 use lib.Dec.{eqb}
-use borrow.Author.Tests.{eqb-true}
+use borrow.Author.Tests.{eqb-true, ne_eqb}
 use Rattle.rules.specs.Choice.{when, differ}
 use Rattle.rules.specs.Tables.{Tables, attention}
 use Rattle.rules.specs.Operation.{Operation, TestUnitReady, RequestSense, Reserve, Release, PreventAllow, MoveMedium, ExchangeMedium, ReadElementStatus, ModeSense, SendVolumeTag, RequestVolumeElementAddress, Unknown}
 use Rattle.rules.specs.Order.{Verdict, conflict, refused, InvalidField, after_attention, after_unit, guarded}
 use Rattle.rules.specs.Search.{others_hold as holds_any, after_others, alone}
 use Rattle.rules.specs.Form.{fault, formed}
+use Rattle.form.specs.Faults.{byte_at}
 use Rattle.rules.specs.Command.{admitted}
 use Rattle.rules.proofs.Ladder.{differ-true}
 use Rattle.order.specs.Holders.{any_other}
 use Rattle.operation.specs.declared.Operation.{Operation as Declared}
 use Rattle.operation.specs.Meaning.{meaning}
-use Rattle.admission.specs.declared.Admission.{Admission}
-use Rattle.admission.specs.declared.Admission.TheVariants.{Pending, Held, Faulty, Open}
-use Rattle.admission.specs.Admitting.{meets_attention, reach_of, others_hold, held_in, pending, held, admission, on_admission}
+use Rattle.std.specs.Prelude.{Result, Ok, Err, Option, Some, None}
+use Rattle.admission.specs.declared.Barrier.TheVariants.{Pending, Held, Faulty}
+use Rattle.form.proofs.Lowest.{told-is, told-some, told-none}
+use Rattle.admission.specs.Admitting.{Admission, meets_attention, reach_of, others_hold, held_in, pending, held, admission, on_admission}
 
 module _ (t : Tables) (h : ℕ) (v : Verdict) where
   -- step 2 by the test of the code, whatever step 3 is
@@ -65,31 +67,31 @@ alike t h v w n = rw (borrow.Author.Tests.ne_eqb (attention t.head h) 0 n) refl
 -- ---- for callers: the answer g
 
 module _ (op : Declared) (t : Tables) (h : ℕ) (block list : List ℕ) (g : Admission) (is : g ≡ admission op t.head t.elements h block list) where
-  pub is-pending : g ≡ Pending → attention t.head h ≢ 0
+  pub is-pending : g ≡ Err Pending → attention t.head h ≢ 0
   unfolding admission when
   is-pending p = go (pending (meaning op) t.head h) refl
     where
       at : ℕ
       at = fault (meaning op) t.head block list
 
-      never : (b c : Bool) (at : ℕ) → Pending ≡ when b Held (when c Open (Faulty at)) → ⊥
-      never true c at q = let y : ◌≡◌ {A = ℕ} 0 1 = cc in omega arith
-      never false true at q = let y : ◌≡◌ {A = ℕ} 0 1 = cc in omega arith
-      never false false at q = let y : ◌≡◌ {A = ℕ} 0 1 = cc in omega arith
+      never : (b c : Bool) (n : ℕ) → ◌≡◌ {A = Admission} (Err Pending) (when b (Err Held) (when c (Ok (tt {0})) (Err (Faulty n)))) → ⊥
+      never true c n q = let y : ◌≡◌ {A = ℕ} 0 1 = cc in omega arith
+      never false true n q = let y : ◌≡◌ {A = ℕ} 0 1 = cc in omega arith
+      never false false n q = let y : ◌≡◌ {A = ℕ} 0 1 = cc in omega arith
 
       go : (b : Bool) → pending (meaning op) t.head h ≡ b → attention t.head h ≢ 0
       go true e = waits (meaning op) t.head h e
       go false e = λ _. never (held (meaning op) t.head t.elements h) (eqb at 0) at (sym p ∙ is ∙ rw e refl)
 
   -- what is let through has no fault
-  pub is_open : g ≡ Open → fault (meaning op) t.head block list ≡ 0
+  pub is_open : g ≡ Ok (tt {0}) → fault (meaning op) t.head block list ≡ 0
   unfolding admission when
   is_open p = go (pending (meaning op) t.head h) (held (meaning op) t.head t.elements h) (eqb at 0) refl (sym p ∙ is)
     where
       at : ℕ
       at = fault (meaning op) t.head block list
 
-      go : (b c d : Bool) → eqb at 0 ≡ d → Open ≡ when b Pending (when c Held (when d Open (Faulty at))) → at ≡ 0
+      go : (b c d : Bool) → eqb at 0 ≡ d → ◌≡◌ {A = Admission} (Ok (tt {0})) (when b (Err Pending) (when c (Err Held) (when d (Ok (tt {0})) (Err (Faulty at))))) → at ≡ 0
       go true c d e q = absurd (let y : ◌≡◌ {A = ℕ} 0 1 = cc in omega arith)
       go false true d e q = absurd (let y : ◌≡◌ {A = ℕ} 0 1 = cc in omega arith)
       go false false true e q = eqb-true at 0 e
@@ -104,8 +106,19 @@ module _ (op : Declared) (t : Tables) (h : ℕ) (block list : List ℕ) (g : Adm
 
       go : (b : Bool) → pending (meaning op) t.head h ≡ b → (c d : Bool)
           → when b (after_attention t h (when d rest (refused h (InvalidField at)))) (when c (conflict h) (when d rest (refused h (InvalidField at))))
-          ≡ on_admission t h (when b Pending (when c Held (when d Open (Faulty at)))) rest
+          ≡ on_admission t h (when b (Err Pending) (when c (Err Held) (when d (Ok (tt {0})) (Err (Faulty at))))) rest
       go true e c d = alike t h _ rest (waits (meaning op) t.head h e)
       go false e true d = refl
       go false e false true = refl
       go false e false false = refl
+
+-- ---- what step 4 tells, as the code hands it on: the answer f is of the number that the rules say
+
+module _ (n : ℕ) (f : Option ℕ) (is : f ≡ byte_at n) where
+  pub faulty : (i : ℕ) → f ≡ Some i → ◌≡◌ {A = Admission} (Err (Faulty i)) (when (eqb n 0) (Ok (tt {0})) (Err (Faulty n)))
+  unfolding when
+  faulty i e = rw (ne_eqb n 0 (told-some i n (sym e ∙ is)), told-is i n (sym e ∙ is)) refl
+
+  pub unbarred : f ≡ None → ◌≡◌ {A = Admission} (Ok (tt {0})) (when (eqb n 0) (Ok (tt {0})) (Err (Faulty n)))
+  unfolding when
+  unbarred e = rw (told-none n (sym e ∙ is)) refl

@@ -1,5 +1,5 @@
 -- Steps 2 to 4 as the code judges them. Assumes nothing.
-use Rattle.std.specs.Prelude.{ℕ, List, [], ◌∷◌, Bool, true, false, eqb}
+use Rattle.std.specs.Prelude.{ℕ, List, [], ◌∷◌, Bool, true, false, Result, Ok, Err, eqb}
 use Rattle.rules.specs.Choice.{when, any_of, differ}
 use Rattle.rules.specs.Tables.{Tables, unit, attention}
 use Rattle.rules.specs.Operation.{Operation, TestUnitReady, RequestSense, Reserve, Release, PreventAllow, MoveMedium, ExchangeMedium, ReadElementStatus, ModeSense, SendVolumeTag, RequestVolumeElementAddress, Unknown}
@@ -8,8 +8,8 @@ use Rattle.rules.specs.Form.{fault}
 use Rattle.order.specs.Holders.{any_other}
 use Rattle.operation.specs.declared.Operation.{Operation as Declared}
 use Rattle.operation.specs.Meaning.{meaning}
-use Rattle.admission.specs.declared.Admission.{Admission}
-use Rattle.admission.specs.declared.Admission.TheVariants.{Pending, Held, Faulty, Open}
+use Rattle.admission.specs.declared.Barrier.{Barrier}
+use Rattle.admission.specs.declared.Barrier.TheVariants.{Pending, Held, Faulty}
 use Rattle.admission.specs.declared.Reach.{Reach}
 use Rattle.admission.specs.declared.Reach.TheVariants.{Nothing, Unit as OfUnit, Elements}
 
@@ -58,15 +58,19 @@ held_in Elements head elements h = others_hold head elements h
 unfoldable pub held : Operation → List ℕ → List ℕ → ℕ → Bool
 held op head elements h = held_in (reach_of op) head elements h
 
+-- nothing is in the way, or something is
+abbrev pub Admission : Type 0
+Admission = Result (Unit {0}) Barrier
+
 unfoldable pub admission : Declared → List ℕ → List ℕ → ℕ → List ℕ → List ℕ → Admission
 admission op head elements h block list =
-    when (pending (meaning op) head h) Pending
-    (when (held (meaning op) head elements h) Held
-    (when (eqb (fault (meaning op) head block list) 0) Open (Faulty (fault (meaning op) head block list))))
+    when (pending (meaning op) head h) (Err Pending)
+    (when (held (meaning op) head elements h) (Err Held)
+    (when (eqb (fault (meaning op) head block list) 0) (Ok (tt {0})) (Err (Faulty (fault (meaning op) head block list)))))
 
 -- what a command of host h comes to by each answer, where rest is what follows step 4
 unfoldable pub on_admission : Tables → ℕ → Admission → Verdict → Verdict
-on_admission t h Pending rest = after_attention t h rest
-on_admission t h Held rest = conflict h
-on_admission t h (Faulty at) rest = refused h (InvalidField at)
-on_admission t h Open rest = rest
+on_admission t h (Err Pending) rest = after_attention t h rest
+on_admission t h (Err Held) rest = conflict h
+on_admission t h (Err (Faulty at)) rest = refused h (InvalidField at)
+on_admission t h (Ok done) rest = rest

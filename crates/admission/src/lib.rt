@@ -1,24 +1,23 @@
 // What a command meets before it is carried out, judged by reading only: steps 1 to 4. Step 4 has a crate of its own.
 #![tactic(auto)]
 
-ghost use Rattle.std.specs.Prelude.{◌≡◌, ◌≤◌, length};
-ghost use Rattle.rules.specs.Tables.{head_size, hosts};
+ghost use Rattle.std.specs.Prelude.{◌≡◌};
 ghost use Rattle.operation.specs.Meaning.{meaning, Fitting};
 ghost use Rattle.admission.specs.Admitting.{meets_attention, reach_of, others_hold, pending, held, admission};
 
 use operation::Operation;
+use tables::Host;
 
-// What a command meets: attention of its host, what another holds, a field of the block that is at fault, at its byte; or nothing.
-#[derive(Clone, Copy)]
-pub enum Admission {
+// What keeps a command from being carried out: attention of its host, what another holds, or a field of the block that is at fault, at its byte.
+#[derive(Clone, Copy, PartialEq, Eq)]
+pub enum Barrier {
     Pending,
     Held,
     Faulty(usize),
-    Open,
 }
 
 // How far step 3 looks for what another host holds.
-#[derive(Clone, Copy)]
+#[derive(Clone, Copy, PartialEq, Eq)]
 enum Reach {
     Nothing,
     Unit,
@@ -28,6 +27,7 @@ enum Reach {
 // ---- steps 2 and 3
 
 // "2. Attention pending and not REQUEST SENSE"; step 1 comes before it.
+#[tactic(auto, unfolding(crate::specs::Admitting::meets_attention, operation::specs::Meaning::meaning))]
 fn meets_attention(op: Operation) -> bool
     ensures { result ≡ meets_attention (meaning op) }
 {
@@ -48,6 +48,7 @@ fn meets_attention(op: Operation) -> bool
 }
 
 // "3. Unit held by another host .. (never for RELEASE, REQUEST SENSE)"; B5h and B6h: "if any other host holds unit or element"; step 1 comes before it.
+#[tactic(auto, unfolding(crate::specs::Admitting::reach_of, operation::specs::Meaning::meaning))]
 fn reach_of(op: Operation) -> Reach
     ensures { result ≡ reach_of (meaning op) }
 {
@@ -67,20 +68,17 @@ fn reach_of(op: Operation) -> Reach
     }
 }
 
-fn pending(op: Operation, head: &[u8], host: u8) -> bool
-    requires head_size_in_bounds { head_size ≤ length head.now }
-    requires host_le_hosts { host ≤ hosts }
-    ensures { result ≡ pending (meaning op) head.now host }
+fn pending(op: Operation, head: &[u8; layout::HEAD_SIZE], host: Host) -> bool
+    ensures { result ≡ pending (meaning op) head.now host.number }
 {
     if meets_attention(op) {
-        return tables::head::attention(head, host) != 0;
+        return tables::head::attention(head, host.number) != 0;
     }
     false
 }
 
 // "if any other host holds unit or element"
-fn others_hold(head: &[u8], elements: &[u8], host: u8) -> bool
-    requires { head_size ≤ length head.now }
+fn others_hold(head: &[u8; layout::HEAD_SIZE], elements: &[u8], host: u8) -> bool
     ensures { result ≡ others_hold head.now elements.now host }
 {
     if order::other(host, tables::head::unit(head)) {
@@ -90,8 +88,7 @@ fn others_hold(head: &[u8], elements: &[u8], host: u8) -> bool
 }
 
 // Step 3: no command but those of the search looks at the elements.
-fn held(op: Operation, head: &[u8], elements: &[u8], host: u8) -> bool
-    requires { head_size ≤ length head.now }
+fn held(op: Operation, head: &[u8; layout::HEAD_SIZE], elements: &[u8], host: u8) -> bool
     ensures { result ≡ held (meaning op) head.now elements.now host }
 {
     let far = reach_of(op);
@@ -102,29 +99,26 @@ fn held(op: Operation, head: &[u8], elements: &[u8], host: u8) -> bool
     }
 }
 
-// Steps 1 to 4: an operation that is unknown meets none of them, and is refused where the command is chosen.
+// Steps 1 to 4: an operation that is unknown meets none of them, and is refused where the command is chosen. The block has the length of its operation (`Fitting`), as in `form` and `numbers`: a fact of both together.
 pub fn judge(
     op: Operation,
-    head: &[u8],
+    head: &[u8; layout::HEAD_SIZE],
     elements: &[u8],
-    host: u8,
+    host: Host,
     block: &[u8],
     list: &[u8],
-) -> Admission
-    requires head_size_in_bounds { head_size ≤ length head.now }
-    requires host_le_hosts { host ≤ hosts }
-    requires fitting { Fitting op block.now }
-    ensures { result ≡ admission op head.now elements.now host block.now list.now }
+) -> Result<(), Barrier>
+    requires { Fitting op block.now }
+    ensures { result ≡ admission op head.now elements.now host.number block.now list.now }
 {
     if pending(op, head, host) {
-        return Admission::Pending;
+        return Err(Barrier::Pending);
     }
-    if held(op, head, elements, host) {
-        return Admission::Held;
+    if held(op, head, elements, host.number) {
+        return Err(Barrier::Held);
     }
-    let at = form::fault(op, head, block, list);
-    if at == 0 {
-        return Admission::Open;
+    match form::fault(op, head, block, list) {
+        Some(at) => Err(Barrier::Faulty(at)),
+        None => Ok(()),
     }
-    Admission::Faulty(at)
 }

@@ -8,6 +8,7 @@ use mathlib.Core.List.{List, [], ◌∷◌, ◌++◌}
 use lib.ListN.{length, get_or}
 use lib.Dec.{eqb}
 use borrow.Author.Tests.{eqb-true, eq-eqb, ne_eqb, not-true}
+use Rattle.std.specs.Prelude.{Option, Some, None}
 use Rattle.rules.specs.Choice.{when, all_of}
 use Rattle.rules.specs.Tables.{holder}
 use Rattle.rules.specs.Roster.{Range, Slot, slots, spread, place_of, kind_of, first_transport, transport}
@@ -18,8 +19,6 @@ use Rattle.rules.proofs.Rungs.{below_as}
 use Rattle.rules.proofs.Places.{Placed, spread-placed}
 use Rattle.tables.specs.declared.Range.{Range as Code}
 use Rattle.tables.specs.declared.Types.TheVariants.{Transport}
-use Rattle.tables.specs.declared.Found.{Found}
-use Rattle.tables.specs.declared.Found.TheVariants.{At, Nothing}
 use Rattle.tables.specs.Ranges.{meaning, meant, laid}
 use Rattle.tables.specs.LookUp.{admits, found, on_found}
 use Rattle.tables.proofs.Sort.{none, on-four}
@@ -44,46 +43,40 @@ module _ (h : ℕ) (es : List ℕ) where
   none_in zero k f p d e = refl
   none_in (suc n) k f p d e = rw (ne_eqb k transport e) (none_in n k (suc f) (suc p) d e)
 
-  -- ---- the turns of the loop over a run of transports from place p on: all but the `left` last are held by other hosts
+  -- ---- the turns of the loop over a run of transports from place p on: the first k are held by other hosts
 
-  pub record Held (r : Code) (p d left : ℕ) : Type 0 where
+  pub record Held (r : Code) (p d k : ℕ) : Type 0 where
     pub arms : r.kind ≡ transport
-    pub far : left ≤ r.count
-    pub rest : open_transport h es (slots r.kind r.first p r.count) d
-        ≡ open_transport h es (slots r.kind (r.first + (r.count - left)) (p + (r.count - left)) left) d
+    pub rest : open_transport h es (slots r.kind r.first p r.count) d ≡ open_transport h es (slots r.kind (r.first + k) (p + k) (r.count - k)) d
 
-  pub held_none : (r : Code) (p d : ℕ) → r.kind ≡ transport → Held r p d r.count
+  pub held_none : (r : Code) (p d : ℕ) → r.kind ≡ transport → Held r p d 0
   held_none r p d k =
-      let z : r.count - r.count ≡ 0 = omega arith in
+      let z : r.count - 0 ≡ r.count = omega arith in
       let x : r.first + 0 ≡ r.first = omega arith in
       let y : p + 0 ≡ p = omega arith in
-      record { arms = k; far = omega arith; rest = rw (z, x, y) }
+      record { arms = k; rest = rw (z, x, y) }
 
-  module _ (r : Code) (p d left : ℕ) (at : Held r p d left) where
-    -- the one that is looked at
-    abbrev k : ℕ
-    k = r.count - left
-
-    module _ (l : 0 < left) (x : Bool) (is : x ≡ other h (holder es (p + k))) where
+  module _ (r : Code) (p d k : ℕ) (at : Held r p d k) where
+    module _ (l : k < r.count) (x : Bool) (is : x ≡ other h (holder es (p + k))) where
       here : open_transport h es (slots r.kind r.first p r.count) d
-          ≡ when x (open_transport h es (slots r.kind (suc (r.first + k)) (suc (p + k)) (left - 1)) d) (r.first + k)
+          ≡ when x (open_transport h es (slots r.kind (suc (r.first + k)) (suc (p + k)) (r.count - (k + 1))) d) (r.first + k)
       here =
-          let e : left ≡ suc (left - 1) = omega arith in
+          let e : r.count - k ≡ suc (r.count - (k + 1)) = omega arith in
           at.rest ∙ ap (λ (m : ℕ). open_transport h es (slots r.kind (r.first + k) (p + k) m) d) e
-          ∙ rw is (turn r.kind (r.first + k) (p + k) (left - 1) d at.arms)
+          ∙ rw is (turn r.kind (r.first + k) (p + k) (r.count - (k + 1)) d at.arms)
 
       pub held_found : x ≡ false → r.first + k ≡ open_transport h es (slots r.kind r.first p r.count) d
       held_found e = sym (here ∙ when_false _ _ _ e)
 
-      pub held_on : x ≡ true → Held r p d (left - 1)
+      pub held_on : x ≡ true → Held r p d (k + 1)
       held_on e =
-          let a : suc (r.first + k) ≡ r.first + (r.count - (left - 1)) = omega (arith, at.far) in
-          let b : suc (p + k) ≡ p + (r.count - (left - 1)) = omega (arith, at.far) in
-          record { arms = at.arms; far = omega (arith, at.far); rest = here ∙ when_true _ _ _ e ∙ rw (a, b) }
+          let a : suc (r.first + k) ≡ r.first + (k + 1) = omega arith in
+          let b : suc (p + k) ≡ p + (k + 1) = omega arith in
+          record { arms = at.arms; rest = here ∙ when_true _ _ _ e ∙ rw (a, b) }
 
-    pub held_all : left ≤ 0 → d ≡ open_transport h es (slots r.kind r.first p r.count) d
+    pub held_all : r.count ≤ k → d ≡ open_transport h es (slots r.kind r.first p r.count) d
     unfolding slots open_transport
-    held_all l = let e : left ≡ 0 = omega arith in sym (at.rest ∙ rw e)
+    held_all l = let e : r.count - k ≡ 0 = omega arith in sym (at.rest ∙ rw e)
 
   -- ---- a list and one behind it
 
@@ -149,38 +142,24 @@ module _ (h : ℕ) (es : List ℕ) where
               ih k (rw z at e)
 
   -- its place is told, and not held
-  first-arm : (runs : List Code) (a p : ℕ) → a ≡ first_transport (laid runs) → At p ≡ found Transport (laid runs) a → other h (holder es p) ≡ false
-      → At p ≡ found Transport (laid runs) (open_at (laid runs) es h)
+  first-arm : (runs : List Code) (a p : ℕ) → a ≡ first_transport (laid runs) → Some p ≡ found Transport (laid runs) a → other h (holder es p) ≡ false
+      → Some p ≡ found Transport (laid runs) (open_at (laid runs) es h)
   unfolding admits laid
   first-arm runs a p e is free =
-      let k : kind_of (laid runs) a ≡ transport = eqb-true _ _ (at-admits Transport (laid runs) a (At p) is p refl) in
-      let q : p ≡ 0 + place_of (laid runs) (first_transport (laid runs)) = rw (← e) (omega (arith, at_place Transport (laid runs) a (At p) is p refl)) in
+      let k : kind_of (laid runs) a ≡ transport = eqb-true _ _ (at-admits Transport (laid runs) a (Some p) is p refl) in
+      let q : p ≡ 0 + place_of (laid runs) (first_transport (laid runs)) = rw (← e) (omega (arith, at_place Transport (laid runs) a (Some p) is p refl)) in
       let o = first-open 0 (laid runs) (first_transport (laid runs)) (spread-placed 0 _) (rw e at k) (rw (← q) free) in
       is ∙ ap (found Transport (laid runs)) (e ∙ sym o)
 
-  pub open-first : (runs : List Code) (a : ℕ) (f : Found) (x : Bool) → f ≡ found Transport (laid runs) a → a ≡ first_transport (laid runs)
+  pub open-first : (runs : List Code) (a : ℕ) (f : Option ℕ) (x : Bool) → f ≡ found Transport (laid runs) a → a ≡ first_transport (laid runs)
       → x ≡ is_open es h f → x ≡ true → f ≡ found Transport (laid runs) (open_at (laid runs) es h)
   unfolding is_open on_found
-  open-first runs a (At p) x is e y t = first-arm runs a p e is (not-true _ (sym y ∙ t))
-  open-first runs a Nothing x is e y t = absurd (never (sym y ∙ t))
+  open-first runs a (Some p) x is e y t = first-arm runs a p e is (not-true _ (sym y ∙ t))
+  open-first runs a None x is e y t = absurd (never (sym y ∙ t))
 
-  -- ---- by what a look-up told
-
-  pub open-at : (f : Found) (p : ℕ) (x : Bool) → f ≡ At p → x ≡ other h (holder es p) → not x ≡ is_open es h f
-  unfolding is_open on_found
-  open-at f p x e is = rw (e, is)
-
-  pub open_none : (f : Found) → f ≡ Nothing → false ≡ is_open es h f
-  unfolding is_open on_found
-  open_none f e = rw e
-
--- a place that is told has a record
-pub told_at : (n p : ℕ) (f : Found) → f ≡ At p → Told n f → p < n
-told_at n p f e t = rw e at t
-
-pub found-told : (ss : List Slot) (a n : ℕ) (f : Found) → f ≡ found Transport ss a → length ss ≡ n → Told n f
-found-told ss a n (At p) is m = below_as p (length ss) n m (at-below Transport ss a (At p) is p refl)
-found-told ss a n Nothing is m = tt
+pub found-told : (ss : List Slot) (a n : ℕ) (f : Option ℕ) → f ≡ found Transport ss a → length ss ≡ n → Told n f
+found-told ss a n (Some p) is m = below_as p (length ss) n m (at-below Transport ss a (Some p) is p refl)
+found-told ss a n None is m = tt
 
 -- ---- the address that is looked up first
 

@@ -12,9 +12,10 @@ ghost use Rattle.tables.specs.LookUp.{found};
 ghost use Rattle.tables.specs.declared.Types.TheVariants.{Transport};
 ghost use Rattle.arms.specs.Used.{open_at, arm_at, Told, is_open};
 
-use tables::{Found, Range, Types};
+use tables::{Range, Types};
 
 // The element at a place is held by another host.
+#[tactic(auto, unfolding(rules::specs::Tables::places))]
 pub fn place_held(elements: &[u8], host: u8, place: usize) -> bool
     requires { place < places elements.now }
     ensures { result ≡ other host (holder elements.now place) }
@@ -22,7 +23,8 @@ pub fn place_held(elements: &[u8], host: u8, place: usize) -> bool
     order::other(host, tables::element::holder(elements, place))
 }
 
-// Of a run that begins at a place, the address of the first transport that no other host holds; `none` where there is none. `left` are still to be looked at.
+// Of a run that begins at a place, the address of the first transport that no other host holds; `none` where there is none.
+#[tactic(auto, unfolding(rules::specs::Tables::places))]
 fn open_in(elements: &[u8], host: u8, r: Range, place: usize, none: u32) -> u32
     requires { place + r.count ≤ places elements.now }
     ensures { result ≡ open_transport host elements.now (slots r.kind r.first place r.count) none }
@@ -30,27 +32,20 @@ fn open_in(elements: &[u8], host: u8, r: Range, place: usize, none: u32) -> u32
     if r.kind != layout::TRANSPORT {
         return none;
     }
-    let n = r.count as usize;
-    let mut left = n;
-    while left > 0 {
-        let k = n - left;
-        if !place_held(elements, host, place + k) {
+    for k in 0..r.count {
+        if !place_held(elements, host, place + (k as usize)) {
             return (r.first as u32) + (k as u32);
         }
-        left -= 1;
     }
     none
 }
 
-// "the lowest-addressed transport not held by another host", and the first where each is held: each run has what is open in those behind it to fall back on.
+// "the lowest-addressed transport not held by another host", and the first where each is held: each run has what is open in those behind it to fall back on. That the runs are those of the table is asked here and below: a fact of both together.
 fn open_transport(runs: [Range; 4], elements: &[u8], host: u8) -> u32
     requires { length (laid runs) ≡ places elements.now }
     ensures { result ≡ open_at (laid runs) elements.now host }
 {
-    let a = runs[0];
-    let b = runs[1];
-    let c = runs[2];
-    let d = runs[3];
+    let [a, b, c, d] = runs;
     let second = a.count as usize;
     let third = second + (b.count as usize);
     let fourth = third + (c.count as usize);
@@ -62,7 +57,7 @@ fn open_transport(runs: [Range; 4], elements: &[u8], host: u8) -> u32
 }
 
 // Where it stands.
-fn open_arm(runs: [Range; 4], elements: &[u8], host: u8) -> Found
+fn open_arm(runs: [Range; 4], elements: &[u8], host: u8) -> Option<usize>
     requires { length (laid runs) ≡ places elements.now }
     ensures { result ≡ found Transport (laid runs) (open_at (laid runs) elements.now host) }
 {
@@ -70,6 +65,7 @@ fn open_arm(runs: [Range; 4], elements: &[u8], host: u8) -> Found
 }
 
 // The address that is looked up first: the one that is named, and for transport 0 that of the first transport.
+#[tactic(auto, unfolding(rules::specs::Choice::when))]
 fn first_choice(runs: [Range; 4], address: u16) -> u32
     ensures { result ≡ when (eqb address 0) (first_transport (laid runs)) address }
 {
@@ -80,27 +76,22 @@ fn first_choice(runs: [Range; 4], address: u16) -> u32
 }
 
 // There is a transport, and no other host holds it.
-fn is_open(elements: &[u8], host: u8, arm: Found) -> bool
+#[tactic(auto, unfolding(crate::specs::Used::is_open, tables::specs::LookUp::on_found))]
+fn is_open(elements: &[u8], host: u8, arm: Option<usize>) -> bool
     requires { Told (places elements.now) arm }
     ensures { result ≡ is_open elements.now host arm }
 {
-    match arm {
-        Found::At(place) => !place_held(elements, host, place),
-        Found::Nothing => false,
-    }
+    arm.is_some_and(|place| !place_held(elements, host, place))
 }
 
 // "A transport named by its address is as before"; for transport 0 the first is looked at first, and the others where it is held. There is one look-up for both,
 // and one call for the others, which the compiler then puts in place: the runs are not copied for it.
-pub fn arm_of(runs: [Range; 4], elements: &[u8], host: u8, address: u16) -> Found
+pub fn arm_of(runs: [Range; 4], elements: &[u8], host: u8, address: u16) -> Option<usize>
     requires { length (laid runs) ≡ places elements.now }
     ensures { result ≡ found Transport (laid runs) (arm_at (laid runs) elements.now host address) }
 {
     let first = tables::find(runs, first_choice(runs, address), Types::Transport);
-    if address != 0 {
-        return first;
-    }
-    if is_open(elements, host, first) {
+    if address != 0 || is_open(elements, host, first) {
         return first;
     }
     open_arm(runs, elements, host)

@@ -8,7 +8,8 @@ ghost use Rattle.case_rooms.specs.Alike.{untouched as untouchedOf};
 ghost use Rattle.case_rooms.specs.Lying.{lying};
 ghost use Rattle.case_entering.specs.Called.{called};
 
-use case_rooms::{Effect, State, parts};
+use case_rooms::parts::{self, Table};
+use case_rooms::{Effect, State};
 use case_script::Line;
 use order::Reply;
 
@@ -27,11 +28,10 @@ fn made(
         ≡ called line.word line.first line.second (lying state head.old elements.old room.now search.old) state.host block.now
         (part_of room.now parameters_at state.parameters) (untouchedOf (length (take state.buffer answer.old))) }
 {
-    let sizes = state.sizes;
-    let h = case_rooms::least(sizes[parts::HEAD], head.len());
-    let e = case_rooms::least(sizes[parts::ELEMENTS], elements.len());
-    let s = case_rooms::least(sizes[parts::SEARCH], search.len());
-    let b = case_rooms::least(state.buffer, answer.len());
+    let h = state.length(Table::Head).min(head.len());
+    let e = state.length(Table::Elements).min(elements.len());
+    let s = state.length(Table::Search).min(search.len());
+    let b = state.buffer.min(answer.len());
     case_entering::entered(
         state,
         line,
@@ -44,29 +44,20 @@ fn made(
     )
 }
 
-// The core changes head, elements and search while it reads the rest, so that it is lent copies of these three.
-fn on_copies(state: State, line: Line, room: &mut [u8], answer: &mut [u8], block: &[u8]) -> Reply {
-    let mut head = [0u8; parts::HEAD_MOST];
-    let mut elements = [0u8; parts::ELEMENTS_MOST];
-    let mut search = [0u8; parts::SEARCH_MOST];
-    case_keeping::lend(room, &mut head, &mut elements, &mut search);
-    let reply = made(
-        state,
-        line,
-        &mut head,
-        &mut elements,
-        room,
-        &mut search,
-        answer,
-        block,
-    );
-    case_keeping::take_back(state, room, &head, &elements, &search);
-    reply
-}
-
 // The call that a line makes.
 pub fn call(state: State, line: Line, room: &mut [u8], block: &[u8]) -> Effect {
     let mut answer = [0u8; parts::ANSWER_MOST];
-    let reply = on_copies(state, line, room, &mut answer, block);
+    let reply = case_keeping::on_copies(state, room, |copies, lent| {
+        made(
+            state,
+            line,
+            &mut copies.head,
+            &mut copies.elements,
+            lent,
+            &mut copies.search,
+            &mut answer,
+            block,
+        )
+    });
     case_keeping::answered(state, line.word, reply, room, &answer)
 }

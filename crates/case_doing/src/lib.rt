@@ -1,92 +1,46 @@
 // What a line of a case asks to be done; and all of it that makes no call of the core.
 #![tactic(auto)]
 
+ghost use Rattle.std.specs.Prelude.{◌≡◌, false};
+ghost use Rattle.case_rooms.specs.Parts.{part as part_of};
+
 use case_rooms::{Effect, State};
-use case_script::{Line, Reading, class, word};
+use case_script::Line;
+use case_script::class::Class;
+use case_script::fault::Stop;
+use case_script::word::Word;
 
-#[derive(Clone, Copy)]
-pub enum Task {
-    // the line is blank, or can't be read, or is of no case, or begins one
-    Nothing,
-    Set(Line),
-    Build(Line),
-    Prepare(Line),
-    Call(Line),
-    Replay(Line),
-    Judge(Line),
-}
-
-// Whether a line makes tables.
-fn builds(class: u8) -> bool {
-    if class == class::WHOLE {
-        return true;
+// The line that is to be obeyed: it is of a case that has begun, and begins none itself.
+pub fn to_do(begun: bool, reading: Result<Option<Line>, Stop>) -> Option<Line>
+    ensures { begun ≡ false → result ≡ None }
+{
+    match reading {
+        Ok(Some(line)) if begun && line.word != Word::Case => Some(line),
+        _ => None,
     }
-    if class == class::RANGE {
-        return true;
-    }
-    if class == class::LENGTH {
-        return true;
-    }
-    class == class::LABEL
-}
-
-// What a line of a case that has begun asks for.
-fn asked(line: Line) -> Task {
-    if line.set {
-        return Task::Set(line);
-    }
-    let class = class::of(line.word);
-    if builds(class) {
-        return Task::Build(line);
-    }
-    if class == class::AHEAD {
-        return Task::Prepare(line);
-    }
-    if class == class::CALL {
-        return Task::Call(line);
-    }
-    if class == class::REPLAY {
-        return Task::Replay(line);
-    }
-    Task::Judge(line)
-}
-
-// A line is obeyed where it is of a case that has begun, and begins none itself.
-pub fn to_do(begun: bool, reading: Reading) -> Task {
-    let Reading::Says(line) = reading else {
-        return Task::Nothing;
-    };
-    if !begun {
-        return Task::Nothing;
-    }
-    if line.word == word::CASE {
-        return Task::Nothing;
-    }
-    asked(line)
 }
 
 // The bytes that a line gives stand at the front of `bytes`.
-pub fn given(line: Line, bytes: &[u8]) -> &[u8] {
+pub fn given(line: Line, bytes: &[u8]) -> &[u8]
+    ensures { result.now ≡ part_of bytes.now 0 line.count }
+{
     case_rooms::part(bytes, 0, line.count)
 }
 
-// What is expected, against what is found.
-fn judged(state: State, line: Line, room: &[u8], bytes: &[u8]) -> Effect {
-    Effect {
-        state,
-        finding: case_trial::judge::judge(state, line, room, bytes),
-    }
-}
-
 // Does what a line asks for; the calls are made elsewhere.
-pub fn obey(state: State, task: Task, room: &mut [u8], bytes: &[u8]) -> Effect {
-    match task {
-        Task::Nothing => case_rooms::done(state),
-        Task::Set(line) => case_setting::set(state, line, room, given(line, bytes)),
-        Task::Build(line) => case_setup::build::build(state, line, room, given(line, bytes)),
-        Task::Prepare(line) => case_keeping::prepare(state, line, room, given(line, bytes)),
-        Task::Call(_) => case_rooms::done(state),
-        Task::Replay(_) => case_rooms::done(state),
-        Task::Judge(line) => judged(state, line, room, given(line, bytes)),
-    }
+pub fn obey(state: State, line: Line, room: &mut [u8], bytes: &[u8]) -> Effect {
+    let bytes = given(line, bytes);
+    let after = match line.word.class() {
+        _ if line.set => case_setting::set(state, line, room, bytes),
+        Class::Whole | Class::Range | Class::Length | Class::Label => {
+            case_setup::build::build(state, line, room, bytes)
+        },
+        Class::Ahead => case_keeping::prepare(state, line, room, bytes),
+        Class::Call | Class::Replay => Ok(state),
+        _ => {
+            let finding = case_trial::judge::judge(state, line, room, bytes);
+            return Effect { state, finding };
+        },
+    };
+    Effect::behind(state, after)
 }

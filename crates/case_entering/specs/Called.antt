@@ -1,10 +1,10 @@
 -- What a call leaves: the rules' own outcome. Assumes nothing.
-use Rattle.std.specs.Prelude.{ℕ, List, eqb}
-use Rattle.rules.specs.Choice.{when}
+use Rattle.std.specs.Prelude.{ℕ, List}
 use Rattle.rules.specs.Tables.{Tables}
 use Rattle.rules.specs.Order.{Outcome}
 use Rattle.rules.specs.Command.{command, import, export, reset}
-use Rattle.case_script.specs.Words.{COMMAND, IMPORT, EXPORT}
+use Rattle.case_script.specs.declared.word.Word.{Word}
+use Rattle.case_script.specs.declared.word.Word.TheVariants as word
 
 -- an event's outcome, with the answer buffer beside it, which an event is not lent
 unfoldable pub beside : List ℕ → Outcome → Outcome
@@ -20,13 +20,12 @@ beside buffer o =
     }
 
 -- the event that a line names
-unfoldable pub event : ℕ → ℕ → ℕ → Tables → Outcome
-event w first second t =
-    when (eqb w IMPORT) (import t first second)
-    (when (eqb w EXPORT) (export t first)
-    (reset t))
+unfoldable pub event : Word → ℕ → ℕ → Tables → Outcome
+event word.Import first second t = import t first second
+event word.Export first second t = export t first
+event _ first second t = reset t
 
 -- the call that a line names
-unfoldable pub called : ℕ → ℕ → ℕ → Tables → ℕ → List ℕ → List ℕ → List ℕ → Outcome
-called w first second t host block parameters buffer =
-    when (eqb w COMMAND) (command t host block parameters buffer) (beside buffer (event w first second t))
+unfoldable pub called : Word → ℕ → ℕ → Tables → ℕ → List ℕ → List ℕ → List ℕ → Outcome
+called word.Command first second t host block parameters buffer = command t host block parameters buffer
+called w first second t host block parameters buffer = beside buffer (event w first second t)

@@ -2,106 +2,60 @@
 #![tactic(auto)]
 
 ghost use Rattle.std.specs.Prelude.{◌≡◌, [], length};
-ghost use Rattle.rules.specs.Tables.{lent, others};
+ghost use Rattle.rules.specs.Tables.{Tables, lent};
 ghost use Rattle.order.specs.Ending.{ended};
+ghost use Rattle.tables.specs.Lent.{rest_of};
+ghost use Rattle.serving.specs.Happened.{happened};
 ghost use Rattle.case_rooms.specs.Parts.{part as part_of, parameters_at};
 ghost use Rattle.case_rooms.specs.Alike.{untouched as untouchedOf};
 ghost use Rattle.case_rooms.specs.Lying.{around};
 ghost use Rattle.case_entering.specs.Called.{event as event_of, called};
 
-use case_rooms::{State, parts};
-use case_script::{Line, word};
+use case_rooms::State;
+use case_rooms::parts::{self, Table};
+use case_script::Line;
+use case_script::word::Word;
+use events::Event;
 use order::Reply;
+use tables::Fixed;
 
-// The event that a line names, on the tables as they lie.
-fn event<'a>(
-    what: u8,
-    first: u32,
-    second: u32,
-    head: &mut [u8],
-    elements: &mut [u8],
-    tags: &'a [u8],
-    blank: &'a [u8],
-    generations: &'a [u8],
-    masks: &'a [u8],
-    search: &mut [u8],
-) -> Reply
-    ensures { ended result (lent head.new elements.new (others tags.now blank.now generations.now masks.now search.new)) [] ≡ event_of what first second (lent head.old elements.old (others tags.now blank.now generations.now masks.now search.old)) }
+// The event that a line names.
+#[tactic(auto, unfolding(crate::specs::Called::event))]
+fn event(line: Line) -> Event
+    ensures { (t : Tables) → happened result t ≡ event_of line.word line.first line.second t }
 {
-    if what == word::IMPORT {
-        return entry_panel::smc_import(
-            head,
-            elements,
-            tags,
-            blank,
-            generations,
-            masks,
-            search,
-            first,
-            second,
-        );
+    match line.word {
+        Word::Import => Event::Import {
+            address: line.first,
+            volume: line.second,
+        },
+        Word::Export => Event::Export {
+            address: line.first,
+        },
+        _ => Event::Reset,
     }
-    if what == word::EXPORT {
-        return entry_panel::smc_export(
-            head,
-            elements,
-            tags,
-            blank,
-            generations,
-            masks,
-            search,
-            first,
-        );
-    }
-    entry_panel::smc_reset(head, elements, tags, blank, generations, masks, search)
 }
 
 // The call of the core that a line names, on the tables as they lie.
-fn enter<'a>(
-    what: u8,
-    first: u32,
-    second: u32,
+fn enter(
+    line: Line,
     host: u32,
     head: &mut [u8],
     elements: &mut [u8],
-    tags: &'a [u8],
-    blank: &'a [u8],
-    generations: &'a [u8],
-    masks: &'a [u8],
+    fixed: Fixed<'_>,
     search: &mut [u8],
     block: &[u8],
     parameters: &[u8],
     answer: &mut [u8],
 ) -> Reply
-    ensures { ended result (lent head.new elements.new (others tags.now blank.now generations.now masks.now search.new)) answer.new ≡ called what first second (lent head.old elements.old (others tags.now blank.now generations.now masks.now search.old)) host block.now parameters.now answer.old }
+    ensures { ended result (lent head.new elements.new (rest_of fixed.entry search.new)) answer.new ≡ called line.word line.first line.second (lent head.old elements.old (rest_of fixed.entry search.old)) host block.now parameters.now answer.old }
 {
-    if what == word::COMMAND {
-        return entry_changer::smc_command(
-            head,
-            elements,
-            tags,
-            blank,
-            generations,
-            masks,
-            search,
-            host,
-            block,
-            parameters,
-            answer,
-        );
+    match line.word {
+        Word::Command => serving::command(
+            head, elements, fixed, search, host, block, parameters, answer,
+        ),
+        _ => serving::event(head, elements, fixed, search, event(line)),
     }
-    event(
-        what,
-        first,
-        second,
-        head,
-        elements,
-        tags,
-        blank,
-        generations,
-        masks,
-        search,
-    )
 }
 
 // The call on head, elements and search as they are lent, and on the parts of the room that the state says, with an answer buffer full of EEh.
@@ -119,19 +73,18 @@ pub fn entered(
         ≡ called line.word line.first line.second (lent head.old elements.old (around state room.now search.old)) state.host block.now
         (part_of room.now parameters_at state.parameters) (untouchedOf (length answer.old)) }
 {
-    let sizes = state.sizes;
-    case_rooms::fill(answer, case_rooms::UNTOUCHED);
+    answer.fill(case_rooms::UNTOUCHED);
     enter(
-        line.word,
-        line.first,
-        line.second,
+        line,
         state.host,
         head,
         elements,
-        case_rooms::part(room, parts::TAGS_AT, sizes[parts::TAGS]),
-        case_rooms::part(room, parts::BLANK_AT, sizes[parts::BLANK]),
-        case_rooms::part(room, parts::GENERATIONS_AT, sizes[parts::GENERATIONS]),
-        case_rooms::part(room, parts::MASKS_AT, sizes[parts::MASKS]),
+        Fixed {
+            tags: state.table(Table::Tags, room),
+            blank: state.table(Table::Blank, room),
+            generations: state.table(Table::Generations, room),
+            masks: state.table(Table::Masks, room),
+        },
         search,
         block,
         case_rooms::part(room, parts::PARAMETERS_AT, state.parameters),

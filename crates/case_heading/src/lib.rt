@@ -3,112 +3,57 @@
 
 mod heading;
 
-ghost use Rattle.std.specs.Prelude.{◌≤◌, ◌<◌, ◌+◌, length};
-
-use case_script::{Line, fault};
-use case_telling::Run;
-use heading::Heading;
+use case_script::Line;
+use case_script::fault::{Fault, Stop};
+use case_telling::{Reason, Run};
+use heading::name_in;
 use std::io;
 use std::io::Write;
 
-// Where the line that begins at a place ends.
-fn line_end(file: &[u8], at: usize) -> usize
-    requires { at < length file.now }
-    ensures { (at ≤ result) × (result ≤ length file.now) }
-{
-    let mut i = at;
-    while i < file.len() {
-        if file[i] == b'\n' {
-            return i;
-        }
-        i += 1;
-    }
-    i
-}
-
-// The line that begins at a place.
-pub fn line_at(file: &[u8], at: usize) -> &[u8]
-    requires { at < length file.now }
-    ensures { at + length result.now ≤ length file.now }
-{
-    let end = line_end(file, at);
-    &file[at..end]
-}
-
 pub fn is_one(line: &[u8]) -> bool {
-    match heading::read(line) {
-        Heading::Nothing => false,
-        Heading::Name(_, _) => true,
-    }
+    name_in(line).is_some()
 }
 
-// Whether a line begins a case of this name.
-fn names(line: &[u8], name: &[u8]) -> bool {
-    match heading::read(line) {
-        Heading::Nothing => false,
-        Heading::Name(from, to) => {
-            case_text::same(
-                case_rooms::part(line, from, case_telling::span(from, to)),
-                name,
-            )
-        }
-    }
-}
-
-// Whether a case before the place `until` has this name.
-fn stands_before(file: &[u8], until: usize, name: &[u8]) -> bool {
-    let stop = case_rooms::least(until, file.len());
-    let mut at: usize = 0;
-    while at < stop {
-        let end = line_end(file, at);
-        if names(case_rooms::part(file, at, end - at), name) {
-            return true;
-        }
-        at = end + 1;
-    }
-    false
+// Whether a case before the line of this number has this name.
+fn stands_before(run: &Run<'_>, name: &[u8]) -> bool {
+    let before = run.number.saturating_sub(1) as usize;
+    run.file
+        .split(|byte| *byte == b'\n')
+        .take(before)
+        .any(|line| name_in(line) == Some(name))
 }
 
 // A case under all the words behind `case`; none is a name too, which is told by its line.
-fn opened<W: Write>(out: &mut W, run: Run, file: &[u8], at: usize, text: &[u8]) -> io::Result<Run> {
-    let ended = case_telling::finish(out, run, file)?;
-    match heading::read(text) {
-        Heading::Nothing => Ok(case_telling::begin(ended, at, 0, 0)),
-        Heading::Name(from, to) => Ok(case_telling::begin(ended, at, from, to)),
-    }
+fn opened<'a, W: Write>(out: &mut W, run: &mut Run<'a>, text: &'a [u8]) -> io::Result<&'a [u8]> {
+    let name = name_in(text).unwrap_or(&[]);
+    run.begin(out, name)?;
+    Ok(name)
 }
 
 // "a bad `case` line begins a case that has failed"
-pub fn misbegun<W: Write>(
+pub fn misbegun<'a, W: Write>(
     out: &mut W,
-    run: Run,
-    path: &[u8],
-    file: &[u8],
-    at: usize,
-    text: &[u8],
-    column: usize,
-    why: u8,
-) -> io::Result<Run> {
-    let r = opened(out, run, file, at, text)?;
-    case_telling::faulty(out, r, path, column, why, 0)
+    run: &mut Run<'a>,
+    text: &'a [u8],
+    stop: Stop,
+) -> io::Result<()> {
+    opened(out, run, text)?;
+    run.faulty(out, stop.at, Reason::from(stop.why))
 }
 
 // A case begins: its name must not be cut by a comment, and must be new in the file.
-pub fn begun<W: Write>(
+pub fn begun<'a, W: Write>(
     out: &mut W,
-    run: Run,
-    path: &[u8],
-    file: &[u8],
-    at: usize,
+    run: &mut Run<'a>,
     line: Line,
-    text: &[u8],
-) -> io::Result<Run> {
-    let r = opened(out, run, file, at, text)?;
-    if r.to != line.to {
-        return case_telling::faulty(out, r, path, line.to, fault::NAME_CUT, 0);
+    text: &'a [u8],
+) -> io::Result<()> {
+    let name = opened(out, run, text)?;
+    if text.get(line.from..line.to) != Some(name) {
+        return run.faulty(out, line.to, Reason::from(Fault::NameCut));
     }
-    if stands_before(file, at, case_telling::name(r, file)) {
-        return case_telling::faulty(out, r, path, line.from, fault::NAME_TWICE, 0);
+    if stands_before(run, name) {
+        return run.faulty(out, line.from, Reason::from(Fault::NameTwice));
     }
-    Ok(r)
+    Ok(())
 }

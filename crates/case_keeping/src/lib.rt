@@ -4,8 +4,11 @@
 ghost use Rattle.std.specs.Prelude.{◌≡◌};
 ghost use Rattle.case_rooms.specs.Alike.{past_count};
 
-use case_rooms::{Difference, Effect, Finding, Log, Replayed, State, parts};
-use case_script::{Line, fault, word};
+use case_rooms::parts::Table;
+use case_rooms::{Call, Difference, Effect, Ending, Finding, Log, Next, Replayed, State, parts};
+use case_script::Line;
+use case_script::fault::Fault;
+use case_script::word::Word;
 use order::Reply;
 
 // "the bytes past the count are still EEh"
@@ -16,167 +19,168 @@ fn past(answer: &[u8], count: u32) -> Finding
     let i = case_rooms::untouched(rest);
     if i < rest.len() {
         return Finding::Differs(Difference {
-            what: word::COMMAND,
+            what: Word::Command,
             at: (count as usize) + i,
-            found: case_rooms::wide(rest[i]),
-            expected: case_rooms::wide(case_rooms::UNTOUCHED),
+            found: u32::from(rest[i]),
+            expected: u32::from(case_rooms::UNTOUCHED),
         });
     }
     Finding::Done
 }
 
-// The state after a call: the parameters were "of the next command alone".
-fn after(state: State, what: u8, reply: Reply) -> State {
-    let mut s = state;
-    if what == word::COMMAND {
-        s.parameters = 0;
+// The state after a call that ended so.
+fn called(state: State, ending: Ending) -> State {
+    let kept = state.sizes;
+    State {
+        last: Some(Call { kept, ending }),
+        ..state
     }
-    s.called = true;
-    let sizes = state.sizes;
-    s.kept = sizes;
-    s.replayed = false;
-    s.reply = reply;
-    s.answered = state.buffer;
-    s
 }
 
 // The log behind a replay from the place `from` on: `resume` goes on where it ended.
 fn gone_on(log: Log, from: usize, ended: Replayed) -> Log {
-    let start = case_rooms::least(from, parts::LOG_MOST);
-    let taken = case_rooms::least(ended.place, parts::LOG_MOST);
+    let start = from.min(parts::LOG_MOST);
+    let taken = ended.place.min(parts::LOG_MOST);
     Log {
-        length: log.length,
-        begun: true,
-        at: start + taken,
-        expected: ended.expected,
+        next: Some(Next {
+            at: start + taken,
+            expected: ended.expected,
+        }),
+        ..log
     }
 }
 
 // Behind a replay from the place `from` of the log on.
-pub fn replayed(state: State, from: usize, ended: Replayed) -> Effect {
-    let mut s = state;
-    let before = state.log;
-    let log = gone_on(before, from, ended);
-    s.log = log;
-    s.called = true;
-    let sizes = state.sizes;
-    s.kept = sizes;
-    s.replayed = true;
-    s.ended = ended;
-    case_rooms::done(s)
+pub fn replayed(state: State, from: usize, ended: Replayed) -> State {
+    let log = gone_on(state.log, from, ended);
+    called(State { log, ..state }, Ending::Replayed(ended))
 }
 
-// The tables that a call writes as they are before it, for `kept`.
-fn keep(room: &mut [u8], head: &[u8], elements: &[u8], search: &[u8]) {
-    case_rooms::write(room, parts::KEPT_HEAD_AT, head);
-    case_rooms::write(room, parts::KEPT_ELEMENTS_AT, elements);
-    case_rooms::write(room, parts::KEPT_SEARCH_AT, search);
+// Copies of the tables that a call writes.
+#[derive(Drop)]
+pub struct Copies {
+    pub head: [u8; parts::HEAD_MOST],
+    pub elements: [u8; parts::ELEMENTS_MOST],
+    pub search: [u8; parts::SEARCH_MOST],
 }
 
-// Copies of the tables that a call writes, as they are before it.
-pub fn lend(room: &mut [u8], head: &mut [u8], elements: &mut [u8], search: &mut [u8]) {
+// The tables that a call writes, as they are before it: copied, and kept in the room for `kept`.
+fn lent(room: &mut [u8]) -> Copies {
+    let mut head = [0u8; parts::HEAD_MOST];
+    let mut elements = [0u8; parts::ELEMENTS_MOST];
+    let mut search = [0u8; parts::SEARCH_MOST];
     case_rooms::write(
-        head,
+        &mut head,
         0,
         case_rooms::part(room, parts::HEAD_AT, parts::HEAD_MOST),
     );
     case_rooms::write(
-        elements,
+        &mut elements,
         0,
         case_rooms::part(room, parts::ELEMENTS_AT, parts::ELEMENTS_MOST),
     );
     case_rooms::write(
-        search,
+        &mut search,
         0,
         case_rooms::part(room, parts::SEARCH_AT, parts::SEARCH_MOST),
     );
-    keep(room, head, elements, search);
+    case_rooms::write(room, parts::KEPT_HEAD_AT, &head);
+    case_rooms::write(room, parts::KEPT_ELEMENTS_AT, &elements);
+    case_rooms::write(room, parts::KEPT_SEARCH_AT, &search);
+    Copies {
+        head,
+        elements,
+        search,
+    }
 }
 
-// Head, elements and search as a call left them.
-pub fn take_back(state: State, room: &mut [u8], head: &[u8], elements: &[u8], search: &[u8]) {
+// A table as a call left it.
+fn take_back(state: State, table: Table, room: &mut [u8], left: &[u8]) {
     case_rooms::write(
         room,
-        parts::HEAD_AT,
-        case_rooms::part(head, 0, case_rooms::length_of(state, parts::HEAD)),
-    );
-    case_rooms::write(
-        room,
-        parts::ELEMENTS_AT,
-        case_rooms::part(elements, 0, case_rooms::length_of(state, parts::ELEMENTS)),
-    );
-    case_rooms::write(
-        room,
-        parts::SEARCH_AT,
-        case_rooms::part(search, 0, case_rooms::length_of(state, parts::SEARCH)),
+        table.part().at,
+        case_rooms::part(left, 0, state.length(table)),
     );
 }
 
-// Behind a call: its answer buffer as it left it, and what it has come to.
-pub fn answered(state: State, what: u8, reply: Reply, room: &mut [u8], answer: &[u8]) -> Effect {
+// The core changes head, elements and search while it reads the rest, so that a call is lent copies of these three.
+pub fn on_copies<R, F: FnOnce(&mut Copies, &[u8]) -> R>(state: State, room: &mut [u8], call: F) -> R
+    requires { F.IsAlwaysCallable call }
+    ensures { (copies : _) × (rest : _) × (after : _) × F.post call copies rest result after }
+{
+    let mut copies = lent(room);
+    let came = call(&mut copies, room);
+    take_back(state, Table::Head, room, &copies.head);
+    take_back(state, Table::Elements, room, &copies.elements);
+    take_back(state, Table::Search, room, &copies.search);
+    came
+}
+
+// Behind a call: its answer buffer as it left it, and what it has come to. The parameters were "of the next command alone".
+pub fn answered(state: State, what: Word, reply: Reply, room: &mut [u8], answer: &[u8]) -> Effect {
     let lent = case_rooms::part(answer, 0, state.buffer);
     case_rooms::write(room, parts::ANSWER_AT, lent);
+    let parameters = if what == Word::Command {
+        0
+    } else {
+        state.parameters
+    };
     Effect {
-        state: after(state, what, reply),
-        finding: past(lent, reply.count),
+        state: called(
+            State {
+                parameters,
+                ..state
+            },
+            Ending::Answered(reply, state.buffer),
+        ),
+        finding: Ok(past(lent, reply.count)),
     }
 }
 
-// "the host of the commands that follow"; "the length of the answer buffer of the commands that follow"
-fn ahead(state: State, what: u8, n: u32) -> Effect {
-    let mut s = state;
-    if what == word::HOST {
-        s.host = n;
-        return case_rooms::done(s);
-    }
+// "the length of the answer buffer of the commands that follow"
+fn buffer(state: State, n: u32) -> Result<State, Fault> {
     let buffer = n as usize;
     if parts::ANSWER_MOST < buffer {
-        return case_rooms::refuse(state, fault::TOO_LARGE);
+        return Err(Fault::TooLarge);
     }
-    s.buffer = buffer;
-    case_rooms::done(s)
+    Ok(State { buffer, ..state })
 }
 
 // "the parameter bytes of the next command alone"
-fn parameters(state: State, room: &mut [u8], bytes: &[u8]) -> Effect {
+fn parameters(state: State, room: &mut [u8], bytes: &[u8]) -> Result<State, Fault> {
     if parts::PARAMETERS_MOST < bytes.len() {
-        return case_rooms::refuse(state, fault::TOO_LARGE);
+        return Err(Fault::TooLarge);
     }
     case_rooms::write(room, parts::PARAMETERS_AT, bytes);
-    let mut s = state;
-    s.parameters = bytes.len();
-    case_rooms::done(s)
+    Ok(State {
+        parameters: bytes.len(),
+        ..state
+    })
 }
 
 // "appends TEXT and a line feed to the case's log"; a line feed is the last of the bytes where the line has one
-fn log(state: State, room: &mut [u8], bytes: &[u8]) -> Effect {
-    let before = state.log;
-    let end = case_rooms::least(before.length, parts::LOG_MOST);
+fn log(state: State, room: &mut [u8], bytes: &[u8]) -> Result<State, Fault> {
+    let end = state.log.length.min(parts::LOG_MOST);
     if parts::LOG_MOST - end < bytes.len() {
-        return case_rooms::refuse(state, fault::TOO_LARGE);
+        return Err(Fault::TooLarge);
     }
     case_rooms::write(room, parts::LOG_AT + end, bytes);
-    let mut s = state;
-    let longer = Log {
+    let log = Log {
         length: end + bytes.len(),
-        begun: before.begun,
-        at: before.at,
-        expected: before.expected,
+        ..state.log
     };
-    s.log = longer;
-    case_rooms::done(s)
+    Ok(State { log, ..state })
 }
 
-// The lines that say what the calls that follow are given.
-pub fn prepare(state: State, line: Line, room: &mut [u8], bytes: &[u8]) -> Effect {
-    if line.word == word::PARAMETERS {
-        return parameters(state, room, bytes);
+// The lines that say what the calls that follow are given; "the host of the commands that follow" is any number.
+pub fn prepare(state: State, line: Line, room: &mut [u8], bytes: &[u8]) -> Result<State, Fault> {
+    match line.word {
+        Word::Parameters => parameters(state, room, bytes),
+        Word::Log | Word::LogBytes => log(state, room, bytes),
+        Word::Host => Ok(State {
+            host: line.first,
+            ..state
+        }),
+        _ => buffer(state, line.first),
     }
-    if line.word == word::LOG {
-        return log(state, room, bytes);
-    }
-    if line.word == word::LOG_BYTES {
-        return log(state, room, bytes);
-    }
-    ahead(state, line.word, line.first)
 }

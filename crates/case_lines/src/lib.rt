@@ -2,39 +2,41 @@
 #![tactic(auto)]
 
 use case_progress::Progress;
-use case_rooms::parts;
-use case_telling::Run;
+use case_rooms::{Effect, parts};
+use case_telling::Counts;
 use std::io;
 use std::io::Write;
 
-// The line that begins at a place of the file. Nothing is told before it is obeyed.
-fn line<W: Write>(
+// The next line of the file. Nothing is told before it is obeyed. Room and bytes are lent apart, not as one struct: what obeys writes the room while it reads the bytes.
+fn line<'a, W: Write>(
     out: &mut W,
-    so_far: Progress,
-    path: &[u8],
-    file: &[u8],
-    at: usize,
-    text: &[u8],
+    progress: &mut Progress<'a>,
+    text: &'a [u8],
     room: &mut [u8],
     bytes: &mut [u8],
-) -> io::Result<Progress> {
-    let run = so_far.run;
+) -> io::Result<()> {
     let reading = case_script::read_line(text, bytes);
-    let task = case_doing::to_do(run.begun, reading);
-    let effect = case_obeying::obey(so_far.state, task, room, bytes);
-    case_progress::next(out, run, path, file, at, text, reading, effect)
+    let effect = match case_doing::to_do(progress.run.case.is_some(), reading) {
+        Some(line) => case_obeying::obey(progress.state, line, room, bytes),
+        None => Effect::behind(progress.state, Ok(progress.state)),
+    };
+    progress.next(out, text, reading, effect)
 }
 
-// The lines of a whole file, and the end of its last case.
-pub fn run_lines<W: Write>(out: &mut W, run: Run, path: &[u8], file: &[u8]) -> io::Result<Run> {
+// The lines of a whole file, and the end of its last case. A line feed at the end begins one more line, which is empty.
+pub fn run_lines<W: Write>(
+    out: &mut W,
+    counts: &mut Counts,
+    path: &[u8],
+    file: &[u8],
+) -> io::Result<()> {
     let mut room = [0u8; parts::ROOM];
     let mut bytes = [0u8; parts::BYTES];
-    let mut progress = case_progress::first(run);
-    let mut at: usize = 0;
-    while at < file.len() {
-        let text = case_heading::line_at(file, at);
-        progress = line(out, progress, path, file, at, text, &mut room, &mut bytes)?;
-        at += text.len() + 1;
+    let mut progress = Progress::first(*counts, path, file);
+    for text in file.split(|byte| *byte == b'\n') {
+        line(out, &mut progress, text, &mut room, &mut bytes)?;
     }
-    case_telling::finish(out, progress.run, file)
+    progress.run.end(out)?;
+    *counts = progress.run.counts;
+    Ok(())
 }

@@ -2,148 +2,99 @@
 #![tactic(auto)]
 
 use case_rooms::{Effect, Finding, State};
-use case_script::{Line, Reading, class, fault, word};
-use case_telling::Run;
+use case_script::Line;
+use case_script::class::Class;
+use case_script::fault::{Fault, Stop};
+use case_script::word::Word;
+use case_telling::{Counts, Reason, Run};
 use std::io;
 use std::io::Write;
 
 // The run, and what its case has come to.
 #[derive(Clone, Copy)]
-pub struct Progress {
-    pub run: Run,
+pub struct Progress<'a> {
+    pub run: Run<'a>,
     pub state: State,
-}
-
-// A file begins, behind those that the run has counted.
-pub fn first(run: Run) -> Progress {
-    Progress {
-        run: case_telling::start(run.passed, run.failed),
-        state: case_rooms::fresh(),
-    }
 }
 
 // Whether a line calls the core.
 fn calls(line: Line) -> bool {
-    let class = class::of(line.word);
-    if class == class::CALL {
-        return true;
-    }
-    class == class::REPLAY
+    matches!(line.word.class(), Class::Call | Class::Replay)
 }
 
-// Before a line of a case: a call must find the number of the call before it asked for, and `number` asks for it.
-fn ahead<W: Write>(out: &mut W, run: Run, file: &[u8], line: Line) -> io::Result<Run> {
-    if calls(line) {
-        return case_telling::demand(out, run, case_telling::name(run, file));
+impl<'a> Progress<'a> {
+    // A file begins, behind those that are counted.
+    pub fn first(counts: Counts, path: &'a [u8], file: &'a [u8]) -> Progress<'a> {
+        Progress {
+            run: Run::start(counts, path, file),
+            state: State::fresh(),
+        }
     }
-    if line.word == word::NUMBER {
-        return Ok(case_telling::asked(run));
-    }
-    Ok(run)
-}
 
-// Behind it: a call has ended with a number; a line that can't be obeyed has called nothing.
-fn behind(run: Run, line: Line, state: State, finding: Finding) -> Run {
-    if let Finding::Fault(_) = finding {
-        return run;
+    // A line of a case: a call must find the number of the call before it asked for, and `number` asks for it. What it has come to is told.
+    fn found<W: Write>(
+        &mut self,
+        out: &mut W,
+        line: Line,
+        text: &[u8],
+        finding: Result<Finding, Fault>,
+    ) -> io::Result<()> {
+        if calls(line) {
+            self.run.demand(out)?;
+        }
+        if line.word == Word::Number {
+            self.run.asked();
+        }
+        let limit = case_trial::limit::of(self.state, line.word, finding);
+        self.run.told(out, line, text, finding, limit)?;
+        // a line that can't be obeyed has called nothing
+        if calls(line) && finding.is_ok() {
+            self.run.owe(self.state.number());
+        }
+        Ok(())
     }
-    if calls(line) {
-        return case_telling::owe(run, case_rooms::number_of(state));
-    }
-    run
-}
 
-// What a line has come to is told.
-fn found<W: Write>(
-    out: &mut W,
-    run: Run,
-    effect: Effect,
-    path: &[u8],
-    file: &[u8],
-    line: Line,
-    text: &[u8],
-) -> io::Result<Progress> {
-    let state = effect.state;
-    let finding = effect.finding;
-    let limit = case_trial::limit::of(state, line.word, finding);
-    let name = case_telling::name(run, file);
-    let told = case_telling::told(out, run, path, name, line, text, finding, limit)?;
-    Ok(Progress {
-        run: behind(told, line, state, finding),
-        state,
-    })
-}
-
-// A line that can't be read: "a bad `case` line begins a case that has failed".
-fn unread<W: Write>(
-    out: &mut W,
-    run: Run,
-    state: State,
-    path: &[u8],
-    file: &[u8],
-    at: usize,
-    text: &[u8],
-    column: usize,
-    why: u8,
-) -> io::Result<Progress> {
-    if case_heading::is_one(text) {
-        return Ok(Progress {
-            run: case_heading::misbegun(out, run, path, file, at, text, column, why)?,
-            state: case_rooms::fresh(),
-        });
+    // A line that can't be read: "a bad `case` line begins a case that has failed".
+    fn unread<W: Write>(&mut self, out: &mut W, text: &'a [u8], stop: Stop) -> io::Result<()> {
+        if case_heading::is_one(text) {
+            self.state = State::fresh();
+            return case_heading::misbegun(out, &mut self.run, text, stop);
+        }
+        self.run.faulty(out, stop.at, Reason::from(stop.why))
     }
-    Ok(Progress {
-        run: case_telling::faulty(out, run, path, column, why, 0)?,
-        state,
-    })
-}
 
-// A line that says something: a case begins, or goes on.
-fn said<W: Write>(
-    out: &mut W,
-    run: Run,
-    effect: Effect,
-    path: &[u8],
-    file: &[u8],
-    at: usize,
-    line: Line,
-    text: &[u8],
-) -> io::Result<Progress> {
-    if line.word == word::CASE {
-        return Ok(Progress {
-            run: case_heading::begun(out, run, path, file, at, line, text)?,
-            state: case_rooms::fresh(),
-        });
+    // A line that says something: a case begins, or goes on.
+    fn said<W: Write>(
+        &mut self,
+        out: &mut W,
+        line: Line,
+        text: &'a [u8],
+        finding: Result<Finding, Fault>,
+    ) -> io::Result<()> {
+        if line.word == Word::Case {
+            self.state = State::fresh();
+            return case_heading::begun(out, &mut self.run, line, text);
+        }
+        if self.run.case.is_none() {
+            return self.run.faulty(out, line.from, Reason::from(Fault::NoCase));
+        }
+        self.found(out, line, text, finding)
     }
-    if !run.begun {
-        let state = effect.state;
-        return Ok(Progress {
-            run: case_telling::faulty(out, run, path, line.from, fault::NO_CASE, 0)?,
-            state,
-        });
-    }
-    let r = ahead(out, run, file, line)?;
-    found(out, r, effect, path, file, line, text)
-}
 
-// Goes on behind a line, whose text begins at `at`: how it was read, and what it has done.
-pub fn next<W: Write>(
-    out: &mut W,
-    so_far: Run,
-    path: &[u8],
-    file: &[u8],
-    at: usize,
-    text: &[u8],
-    reading: Reading,
-    effect: Effect,
-) -> io::Result<Progress> {
-    let run = case_telling::next(so_far);
-    let state = effect.state;
-    match reading {
-        Reading::Blank => Ok(Progress { run, state }),
-        Reading::Says(line) => said(out, run, effect, path, file, at, line, text),
-        Reading::Fault(why, column) => {
-            unread(out, run, state, path, file, at, text, column, why)
+    // Goes on behind a line, by its text: how it was read, and what it has done.
+    pub fn next<W: Write>(
+        &mut self,
+        out: &mut W,
+        text: &'a [u8],
+        reading: Result<Option<Line>, Stop>,
+        effect: Effect,
+    ) -> io::Result<()> {
+        self.run.next();
+        self.state = effect.state;
+        match reading {
+            Ok(None) => Ok(()),
+            Ok(Some(line)) => self.said(out, line, text, effect.finding),
+            Err(stop) => self.unread(out, text, stop),
         }
     }
 }

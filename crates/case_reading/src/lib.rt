@@ -4,43 +4,40 @@
 ghost use Rattle.std.specs.Prelude.{◌≡◌, length};
 ghost use Rattle.std.specs.Io.{ReadsAtMost};
 
-use case_telling::Run;
+use case_telling::Counts;
 use std::io::{Read, Write};
 use std::rt::Files;
-use std::{fs, io};
+use std::{fmt, fs, io};
 
-// Room for a whole file.
-pub fn file_room() -> [u8; 1048576]
+// The most bytes of a file.
+pub const FILE_MOST: usize = 1048576;
+
+// Room for a whole file. It stays a function, since the check of a caller that wrote so long an array itself went deeper than it can follow.
+pub fn file_room() -> [u8; FILE_MOST]
     ensures { 1048576 ≡ length result }
 {
-    [0; 1048576]
+    [0; FILE_MOST]
 }
 
-// The end of a file, which should have had a case.
-pub fn ended<W: Write>(out: &mut W, run: Run, path: &[u8]) -> io::Result<Run> {
-    if run.begun {
-        return Ok(run);
-    }
-    unread(out, run, path, b"no case in it")
-}
-
-// A file that has failed as a whole.
-fn unread<W: Write>(out: &mut W, run: Run, path: &[u8], why: &[u8]) -> io::Result<Run> {
-    case_telling::faults::say_file_fault(out, path, why)?;
-    let mut r = run;
-    r.failed = case_telling::more(r.failed);
-    Ok(r)
-}
-
-#[derive(Clone, Copy)]
-pub enum Got {
-    Whole(usize),
+// Why a file was not read whole.
+#[derive(Clone, Copy, PartialEq, Eq)]
+pub enum Missed {
     TooLong,
     Unread,
     Unopened,
 }
 
-// Reads until `file` is full or the source ends, and answers how many bytes it put at the front of `file`.
+impl fmt::Display for Missed {
+    fn fmt<W: fmt::Write>(&self, f: &mut fmt::Formatter<W>) -> fmt::Result {
+        match self {
+            Missed::TooLong => write!(f, "longer than 1,048,576 bytes"),
+            Missed::Unread => write!(f, "cannot be read"),
+            Missed::Unopened => write!(f, "cannot be opened"),
+        }
+    }
+}
+
+// Reads until `file` is full or the source ends, and answers how many bytes it put at the front of `file`. The file has fixed memory, and std's `read_to_end` asks for a `Vec`.
 fn read_full<R: Read>(source: &mut R, file: &mut [u8]) -> io::Result<usize>
     ensures { ReadsAtMost result file.new }
 {
@@ -56,49 +53,46 @@ fn read_full<R: Read>(source: &mut R, file: &mut [u8]) -> io::Result<usize>
 }
 
 // Reads a whole source, from which nothing has been read, to the front of `file`.
-fn read_source<R: Read>(source: &mut R, file: &mut [u8]) -> Got {
+fn read_source<'a, R: Read>(source: &mut R, file: &'a mut [u8]) -> Result<&'a [u8], Missed> {
     let Ok(n) = read_full(source, file) else {
-        return Got::Unread;
+        return Err(Missed::Unread);
     };
     let mut more = [0u8; 1];
     match source.read(&mut more) {
-        Ok(0) => Got::Whole(n),
-        Ok(_) => Got::TooLong,
-        Err(_) => Got::Unread,
+        Ok(0) => Ok(&file[..n]),
+        Ok(_) => Err(Missed::TooLong),
+        Err(_) => Err(Missed::Unread),
     }
 }
 
 // Reads a whole file to the front of `file`. A name that is not UTF-8 can not be opened.
-pub fn read_whole(files: &impl Files, path: &[u8], file: &mut [u8]) -> Got {
+pub fn read_whole<'a>(
+    files: &impl Files,
+    path: &[u8],
+    file: &'a mut [u8],
+) -> Result<&'a [u8], Missed> {
     let Ok(name) = str::from_utf8(path) else {
-        return Got::Unopened;
+        return Err(Missed::Unopened);
     };
     let Ok(mut source) = fs::open(files, name) else {
-        return Got::Unopened;
+        return Err(Missed::Unopened);
     };
     read_source(&mut source, file)
 }
 
-// A file that was not read whole fails, and it is told why.
-pub fn missed<W: Write>(out: &mut W, run: Run, path: &[u8], got: Got) -> io::Result<Run> {
-    match got {
-        Got::Whole(_) => Ok(run),
-        Got::TooLong => unread(out, run, path, b"longer than 1,048,576 bytes"),
-        Got::Unread => unread(out, run, path, b"cannot be read"),
-        Got::Unopened => unread(out, run, path, b"cannot be opened"),
-    }
-}
-
 // An argument that is too long for the name of a file.
-pub fn unnamed<W: Write>(out: &mut W, run: Run) -> io::Result<Run> {
-    unread(out, run, b"an argument", b"longer than 4,096 bytes")
+pub fn unnamed<W: Write>(out: &mut W, counts: &mut Counts) -> io::Result<()> {
+    counts.fail_file(out, b"an argument", "longer than 4,096 bytes")
 }
 
-// The counts, behind all n arguments; the first is the program's own name.
-pub fn say_end<W: Write>(out: &mut W, n: usize, run: Run) -> io::Result<()> {
-    if n < 2 {
-        case_words::say(out, b"use: cases FILE..\n")?;
-        return case_words::say_counts(out, 0, 1);
+// The counts of all the files, if any was named.
+pub fn say_end<W: Write>(out: &mut W, told: Option<Counts>) -> io::Result<()> {
+    if told.is_none() {
+        writeln!(out, "use: cases FILE..")?;
     }
-    case_words::say_counts(out, run.passed, run.failed)
+    let nothing = Counts {
+        passed: 0,
+        failed: 1,
+    };
+    writeln!(out, "{}", told.unwrap_or(nothing))
 }

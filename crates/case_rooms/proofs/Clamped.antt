@@ -84,9 +84,8 @@ module _ (l : List ℕ) (at start : ℕ) (e : start ≡ min at (length l)) where
       put_back l ys start (start + k - start) n (omega arith) ∙ rw g (put-least l vs at start k e f)
 
   pub written : (vs ys : List ℕ) (k : ℕ) → k ≡ min (length vs) (length l - start)
-      → ys ≡ put (take (start + k - start) (drop start l)) 0 (take k vs) → put_mid start (start + k - start) l ys ≡ put l at vs
-  written vs ys k f g =
-      back vs ys k f (g ∙ put_whole _ (take k vs) (rw (lent_length (length vs) k f, length-take) (omega arith)))
+      → ys ≡ take k vs → put_mid start (start + k - start) l ys ≡ put l at vs
+  written vs ys k f g = back vs ys k f g
 
   pub painted : (n v : ℕ) (ys : List ℕ) (k : ℕ) → k ≡ min n (length l - start)
       → ys ≡ replicate (length (take (start + k - start) (drop start l))) v → put_mid start (start + k - start) l ys ≡ put l at (replicate n v)

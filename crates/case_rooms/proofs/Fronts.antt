@@ -1,61 +1,57 @@
--- Bytes that are alike at the front: the turns of the two loops that count them, and that nothing but equal bytes are alike to the end.
+-- Bytes that are alike at the front: where an iterator finds the first that are not, and that nothing but equal bytes are alike to the end.
 -- Assumes nothing.
+use Rattle.std.proofs.Common.{Option, Some, None, not, cond}
+use Rattle.std.specs.List.{position_or_len, zip}
+use Rattle.std.specs.Option.{unwrap_or}
+use Rattle.case_rooms.proofs.Clamped.{sides}
 use Prim.Native.Nat.{ℕ, suc, ◌+◌, ◌≤◌, ◌<◌}
 use native.Mathlib.Nat.{zero-add}
 use native.Mathlib.Numerals.{add-one}
 use native.Mathlib.Omega.{arith}
-use mathlib.Core.Path.{◌≡◌, refl, sym, ap}
+use mathlib.Core.Path.{◌≡◌, refl, sym, ap, ◌∙◌}
 use mathlib.Core.Bool.{Bool, true, false}
 use mathlib.Core.List.{List, [], ◌∷◌}
 use lib.ListN.{length, get_or, drop, length-replicate, get_or-replicate, drop_of_length-le}
 use lib.Seq.{drop-cons}
-use lib.Dec.{eqb}
-use borrow.Author.Tests.{eq-eqb, ne_eqb, eqb-true}
+use lib.Dec.{eqb, ltb}
+use borrow.Author.Tests.{eq-eqb, ne_eqb, eqb-true, lt-ltb, le-ltb}
 use Rattle.rules.specs.Choice.{when}
 use Rattle.case_rooms.specs.Alike.{alike, untouched}
 
--- ---- the loops: the first i bytes are alike
+-- ---- the first bytes that differ, as an iterator finds them
 
-pub record Passed (xs ys : List ℕ) (i : ℕ) : Type 0 where
-  pub rest : alike xs ys ≡ i + alike (drop i xs) (drop i ys)
-  pub left : i ≤ length xs
-  pub right : i ≤ length ys
+abbrev pub differ : ℕ × ℕ → Bool
+differ p = not (eqb p.0 p.1)
 
-pub none : (xs ys : List ℕ) → Passed xs ys 0
-none xs ys = record { rest = sym (zero-add _); left = omega arith; right = omega arith }
+abbrev pub touched : ℕ → Bool
+touched x = not (eqb x 0xEE)
 
-module _ (xs ys : List ℕ) (i : ℕ) (p : Passed xs ys i) where
-  -- the next bytes
-  module _ (h : i < length xs) (g : i < length ys) where
-    pub more : get_or xs i 0 ≡ get_or ys i 0 → Passed xs ys (i + 1)
-    unfolding alike when
-    more e =
-        let next : alike (drop i xs) (drop i ys) ≡ suc (alike (drop (suc i) xs) (drop (suc i) ys)) =
-        rw (drop-cons xs i 0 h, drop-cons ys i 0 g, eq-eqb (get_or xs i 0) (get_or ys i 0) e) refl in
-        record { rest = rw add-one (omega (arith, p.rest, next)); left = omega arith; right = omega arith }
+pub alike_is : (xs ys : List ℕ) → position_or_len differ (zip xs ys) ≡ alike xs ys
+unfolding alike when
+alike_is [] ys = refl
+alike_is (x ∷ xs) [] = refl
+alike_is (x ∷ xs) (y ∷ ys) = go (eqb x y) (alike_is xs ys)
+  where
+    go : (b : Bool) → position_or_len differ (zip xs ys) ≡ alike xs ys
+        → cond (not (not b)) (1 + position_or_len differ (zip xs ys)) 0 ≡ when b (suc (alike xs ys)) 0
+    go true h = omega arith
+    go false h = refl
 
-    pub parts : (get_or xs i 0 ≡ get_or ys i 0 → ⊥) → i ≡ alike xs ys
-    unfolding alike when
-    parts d =
-        let next : alike (drop i xs) (drop i ys) ≡ 0 =
-        rw (drop-cons xs i 0 h, drop-cons ys i 0 g, ne_eqb (get_or xs i 0) (get_or ys i 0) d) refl in
-        omega (arith, p.rest, next)
+pub untouched_is : (xs : List ℕ) → position_or_len touched xs ≡ alike xs (untouched (length xs))
+unfolding alike when untouched
+untouched_is [] = refl
+untouched_is (x ∷ xs) = go (eqb x 0xEE) (untouched_is xs)
+  where
+    go : (b : Bool) → position_or_len touched xs ≡ alike xs (untouched (length xs))
+        → cond (not (not b)) (1 + position_or_len touched xs) 0 ≡ when b (suc (alike xs (untouched (length xs)))) 0
+    go true h = omega arith
+    go false h = refl
 
-  pub ends : length xs ≤ i → i ≡ alike xs ys
-  unfolding alike
-  ends h =
-      let next : alike (drop i xs) (drop i ys) ≡ 0 = rw (drop_of_length-le xs {i = i} h) refl in
-      omega (arith, p.rest, next)
-
-  none_left : (zs : List ℕ) → alike zs [] ≡ 0
-  unfolding alike
-  none_left [] = refl
-  none_left (z ∷ zs) = refl
-
-  pub short : length ys ≤ i → i ≡ alike xs ys
-  short h =
-      let next : alike (drop i xs) (drop i ys) ≡ 0 = rw (drop_of_length-le ys {i = i} h) (none_left (drop i xs)) in
-      omega (arith, p.rest, next)
+-- where it was found; all that there are where it was not
+pub found_is : (r : Option ℕ) (p n x : ℕ) → r ≡ cond (ltb p n) (Some p) None → p ≤ n → x ≡ unwrap_or r n → x ≡ p
+found_is r p n x e h f =
+    sides n p (λ g. let no : ltb p n ≡ false = le-ltb p n g in let i : n ≡ p = omega arith in f ∙ rw (e, no) i)
+    (λ g. let yes : ltb p n ≡ true = lt-ltb p n g in f ∙ rw (e, yes) refl)
 
 pub most : (xs ys : List ℕ) → alike xs ys ≤ length xs
 unfolding alike when

@@ -2,7 +2,15 @@
 use Rattle.std.specs.Prelude.{ℕ, List, take, drop}
 use Rattle.rules.specs.Tables.{Tables, Rest, lent, others}
 use Rattle.case_rooms.specs.declared.State.{State}
-use Rattle.case_rooms.specs.Parts.{part, length_of, HEAD, ELEMENTS, TAGS, BLANK, GENERATIONS, MASKS, SEARCH, tags_at, blank_at, generations_at, masks_at, log_at}
+use Rattle.case_rooms.specs.declared.parts.Table.{Table}
+use Rattle.case_rooms.specs.Parts.{part, length_of, number_of, begin_of, HEAD, ELEMENTS, TAGS, BLANK, GENERATIONS, MASKS, SEARCH, tags_at, blank_at, generations_at, masks_at, log_at}
+
+-- how long a table is, and the table as it lies in the room
+abbrev pub size_of : State → Table → ℕ
+size_of s table = length_of s.sizes (number_of table)
+
+abbrev pub lies : State → Table → List ℕ → List ℕ
+lies s table room = part room (begin_of table) (size_of s table)
 
 -- what a call is lent beside head and elements: the search, and the others as they lie in the room
 abbrev pub around : State → List ℕ → List ℕ → Rest

@@ -1,6 +1,10 @@
 -- Parts of a room. Assumes nothing.
 use Rattle.std.specs.Prelude.{ℕ, ◌+◌, ◌*◌, List, get_or, take, drop}
 use Rattle.rules.specs.Tables.{head_size, element_size, tag_size, search_size}
+use Rattle.case_script.specs.declared.word.Word.{Word}
+use Rattle.case_script.specs.declared.word.Word.TheVariants as word
+use Rattle.case_rooms.specs.declared.parts.Table.{Table}
+use Rattle.case_rooms.specs.declared.parts.Table.TheVariants.{Head, Elements, Tags, Blank, Generations, Masks, Search}
 
 -- the n bytes from a place on, as many of them as there are
 unfoldable pub part : List ℕ → ℕ → ℕ → List ℕ
@@ -56,3 +60,40 @@ parameters_at = search_at + (search_size + 23)
 
 abbrev pub log_at : ℕ
 log_at = parameters_at + 1024
+
+-- the number of a table, and where it begins
+abbrev pub number_of : Table → ℕ
+number_of Head = HEAD
+number_of Elements = ELEMENTS
+number_of Tags = TAGS
+number_of Blank = BLANK
+number_of Generations = GENERATIONS
+number_of Masks = MASKS
+number_of Search = SEARCH
+
+abbrev pub begin_of : Table → ℕ
+begin_of Head = 0
+begin_of Elements = elements_at
+begin_of Tags = tags_at
+begin_of Blank = blank_at
+begin_of Generations = generations_at
+begin_of Masks = masks_at
+begin_of Search = search_at
+
+-- the table that a word speaks of
+abbrev pub table_of : Word → Table
+table_of word.LengthElements = Elements
+table_of word.Elements = Elements
+table_of word.Volumes = Tags
+table_of word.Label = Tags
+table_of word.LengthTags = Tags
+table_of word.Tags = Tags
+table_of word.LengthBlank = Blank
+table_of word.Blank = Blank
+table_of word.LengthGenerations = Generations
+table_of word.Generations = Generations
+table_of word.LengthMasks = Masks
+table_of word.Masks = Masks
+table_of word.LengthSearch = Search
+table_of word.Search = Search
+table_of _ = Head

@@ -1,23 +1,8 @@
 // The room of a case: its tables, the parameters, the log, the tables that a call writes as they were before the last, and the answer, one behind the other.
-ghost use Rattle.std.specs.Prelude.{◌≤◌};
-ghost use Rattle.case_rooms.specs.Parts.{parameters_at};
+ghost use Rattle.std.specs.Prelude.{◌≡◌, ◌≤◌};
+ghost use Rattle.case_rooms.specs.Parts.{table_of, begin_of, parameters_at};
 
-// The tables, by number.
-pub const HEAD: usize = 0;
-
-pub const ELEMENTS: usize = 1;
-
-pub const TAGS: usize = 2;
-
-pub const BLANK: usize = 3;
-
-pub const GENERATIONS: usize = 4;
-
-pub const MASKS: usize = 5;
-
-pub const SEARCH: usize = 6;
-
-pub const TABLES: usize = 7;
+use case_script::word::Word;
 
 // How many bytes each part may have: a table somewhat more than a sound one, so that refusals of large tables can be shown.
 pub const HEAD_MOST: usize = layout::HEAD_SIZE + 6;
@@ -40,7 +25,7 @@ pub const LOG_MOST: usize = 4096;
 
 pub const ANSWER_MOST: usize = 32768;
 
-// Where each begins.
+// Where each begins; a constant for each, since a constant that reads two fields of the one before it grows past what the compiler takes.
 pub const HEAD_AT: usize = 0;
 
 pub const ELEMENTS_AT: usize = HEAD_AT + HEAD_MOST;
@@ -72,52 +57,58 @@ pub const ROOM: usize = ANSWER_AT + ANSWER_MOST;
 // The bytes that a line gives.
 pub const BYTES: usize = ANSWER_MOST;
 
-// Where a table begins.
-pub fn begin_of(table: usize) -> usize
-    ensures { result ≤ parameters_at }
-{
-    if table == HEAD {
-        return HEAD_AT;
-    }
-    if table == ELEMENTS {
-        return ELEMENTS_AT;
-    }
-    if table == TAGS {
-        return TAGS_AT;
-    }
-    if table == BLANK {
-        return BLANK_AT;
-    }
-    if table == GENERATIONS {
-        return GENERATIONS_AT;
-    }
-    if table == MASKS {
-        return MASKS_AT;
-    }
-    SEARCH_AT
+// The tables that a call is lent.
+#[derive(Clone, Copy)]
+pub enum Table {
+    Head,
+    Elements,
+    Tags,
+    Blank,
+    Generations,
+    Masks,
+    Search,
 }
 
-// How many bytes it may have.
-pub fn most_of(table: usize) -> usize
-    ensures { result ≤ parameters_at }
-{
-    if table == HEAD {
-        return HEAD_MOST;
+pub const TABLES: usize = 7;
+
+// Where a part begins, and how many bytes it may have.
+#[derive(Clone, Copy)]
+pub struct Part {
+    pub at: usize,
+    pub most: usize,
+}
+
+impl Table {
+    // The table that a word speaks of: by its length, or by its bytes.
+    pub fn of(word: Word) -> Table
+        ensures { result ≡ table_of word }
+    {
+        match word {
+            Word::LengthElements | Word::Elements => Table::Elements,
+            Word::Volumes | Word::Label | Word::LengthTags | Word::Tags => Table::Tags,
+            Word::LengthBlank | Word::Blank => Table::Blank,
+            Word::LengthGenerations | Word::Generations => Table::Generations,
+            Word::LengthMasks | Word::Masks => Table::Masks,
+            Word::LengthSearch | Word::Search => Table::Search,
+            _ => Table::Head,
+        }
     }
-    if table == ELEMENTS {
-        return ELEMENTS_MOST;
+
+    // Where a table lies.
+    pub fn part(self) -> Part
+        ensures begins { result.at ≡ begin_of self }
+        ensures within { result.at ≤ parameters_at }
+        ensures most { result.most ≤ parameters_at }
+    {
+        let (at, most) = match self {
+            Table::Head => (HEAD_AT, HEAD_MOST),
+            Table::Elements => (ELEMENTS_AT, ELEMENTS_MOST),
+            Table::Tags => (TAGS_AT, TAGS_MOST),
+            Table::Blank => (BLANK_AT, BLANK_MOST),
+            Table::Generations => (GENERATIONS_AT, GENERATIONS_MOST),
+            Table::Masks => (MASKS_AT, MASKS_MOST),
+            Table::Search => (SEARCH_AT, SEARCH_MOST),
+        };
+        Part { at, most }
     }
-    if table == TAGS {
-        return TAGS_MOST;
-    }
-    if table == BLANK {
-        return BLANK_MOST;
-    }
-    if table == GENERATIONS {
-        return GENERATIONS_MOST;
-    }
-    if table == MASKS {
-        return MASKS_MOST;
-    }
-    SEARCH_MOST
 }

@@ -1,4 +1,2 @@
-pub mod Places
-pub mod Sayings
 pub mod Bounds
 pub mod Examples

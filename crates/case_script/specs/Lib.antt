@@ -1,4 +1,3 @@
-pub mod Words
-pub mod Codes
+pub mod Faults
 pub mod Names
 pub mod Lines

@@ -1,52 +1,67 @@
-// Why a line can not be read.
-pub const UNKNOWN_WORD: u8 = 1;
+// Why a line can not be read, or can not be carried out.
+ghost use Rattle.std.specs.Prelude.{◌≡◌};
+ghost use Rattle.case_script.specs.Faults.{fault_of, stop_of};
 
-pub const NUMBER_EXPECTED: u8 = case_text::fault::NUMBER_EXPECTED;
+#[derive(Clone, Copy, PartialEq, Eq)]
+pub enum Fault {
+    // why it can not be read
+    UnknownWord,
+    NumberExpected,
+    NumberTooLarge,
+    ByteExpected,
+    TooManyBytes,
+    NoEscape,
+    LeftOver,
+    NameMissing,
+    NotSet,
+    NotTables,
+    WrongByteCount,
+    CommentInText,
+    // why it can not be carried out: for the crates above
+    NoElement,
+    NoHost,
+    Outside,
+    NoCase,
+    NoCall,
+    TooLarge,
+    AboveByte,
+    AboveWord,
+    NameCut,
+    NameTwice,
+    // what is asked for is of another kind of call than the last, and what goes on has not begun
+    NotReplayed,
+    Replayed,
+    NoReplay,
+}
 
-pub const NUMBER_TOO_LARGE: u8 = case_text::fault::NUMBER_TOO_LARGE;
+// Why a line can not be read or carried out, and the column, from 0. It is no generic type with that of case_text: see there.
+#[derive(Clone, Copy, PartialEq, Eq)]
+pub struct Stop {
+    pub why: Fault,
+    pub at: usize,
+}
 
-pub const BYTE_EXPECTED: u8 = case_text::fault::BYTE_EXPECTED;
+impl From<case_text::fault::Fault> for Fault {
+    ghost from_gives = { λ why result. result ≡ fault_of why };
 
-pub const TOO_MANY_BYTES: u8 = case_text::fault::TOO_MANY_BYTES;
+    fn from(why: case_text::fault::Fault) -> Self {
+        match why {
+            case_text::fault::Fault::NumberExpected => Fault::NumberExpected,
+            case_text::fault::Fault::NumberTooLarge => Fault::NumberTooLarge,
+            case_text::fault::Fault::ByteExpected => Fault::ByteExpected,
+            case_text::fault::Fault::TooManyBytes => Fault::TooManyBytes,
+            case_text::fault::Fault::NoEscape => Fault::NoEscape,
+        }
+    }
+}
 
-pub const LEFT_OVER: u8 = 6;
+impl From<case_text::fault::Stop> for Stop {
+    ghost from_gives = { λ stop result. result ≡ stop_of stop };
 
-pub const NAME_MISSING: u8 = 7;
-
-pub const NOT_SET: u8 = 8;
-
-pub const NOT_TABLES: u8 = 9;
-
-pub const WRONG_BYTE_COUNT: u8 = 10;
-
-// Why it can not be carried out: for the crates above.
-pub const NO_ELEMENT: u8 = 11;
-
-pub const NO_HOST: u8 = 12;
-
-pub const OUTSIDE: u8 = 13;
-
-pub const NO_CASE: u8 = 14;
-
-pub const NO_CALL: u8 = 15;
-
-pub const TOO_LARGE: u8 = 16;
-
-pub const ABOVE_BYTE: u8 = 17;
-
-pub const ABOVE_WORD: u8 = 18;
-
-pub const NAME_CUT: u8 = 19;
-
-pub const NAME_TWICE: u8 = 20;
-
-pub const NO_ESCAPE: u8 = case_text::fault::NO_ESCAPE;
-
-pub const COMMENT_IN_TEXT: u8 = 22;
-
-// What is asked for is of another kind of call than the last, and what goes on has not begun.
-pub const NOT_REPLAYED: u8 = 23;
-
-pub const REPLAYED: u8 = 24;
-
-pub const NO_REPLAY: u8 = 25;
+    fn from(stop: case_text::fault::Stop) -> Self {
+        Stop {
+            why: Fault::from(stop.why),
+            at: stop.at,
+        }
+    }
+}

@@ -1,122 +1,90 @@
 // `set`: "stores what the same line without `set` asks for".
 #![tactic(auto)]
 
-use case_rooms::{Effect, State, parts};
-use case_script::{Line, class, fault, word};
+ghost use Rattle.std.specs.Prelude.{◌+◌, ◌≤◌, length};
+ghost use Rattle.rules.specs.Tables.{element_at, element_size};
+
+use case_rooms::State;
+use case_rooms::parts::{self, Table};
+use case_script::Line;
+use case_script::class::Class;
+use case_script::fault::Fault;
+use case_script::word::Word;
 use case_setup::table;
-use tables::{Found, Types};
-
-// Whether something could be set, or why not.
-#[derive(Clone, Copy)]
-pub enum Put {
-    Done,
-    Fault(u8),
-}
-
-// What is set changes no length.
-fn with(state: State, put: Put) -> Effect {
-    match put {
-        Put::Done => case_rooms::done(state),
-        Put::Fault(why) => case_rooms::refuse(state, why),
-    }
-}
+use tables::Types;
 
 // A field of one byte of the element at a place.
-fn small_field(elements: &mut [u8], what: u8, place: usize, value: u8) -> Put {
-    if elements.len() / layout::ELEMENT_SIZE <= place {
-        return Put::Fault(fault::OUTSIDE);
-    }
-    if what == word::HOLDER {
-        let id = tables::element::id(elements, place);
-        tables::element::hold(elements, place, value, id);
-        return Put::Done;
-    }
-    if what == word::ID {
-        let holder = tables::element::holder(elements, place);
-        tables::element::hold(elements, place, holder, value);
-        return Put::Done;
-    }
+fn small_field(elements: &mut [u8], what: Word, place: usize, value: u8)
+    requires { element_at place + element_size ≤ length elements.old }
+{
+    let holder = tables::element::holder(elements, place);
+    let id = tables::element::id(elements, place);
     let volume = tables::element::volume(elements, place);
     let source = tables::element::source(elements, place);
-    tables::element::fill(elements, place, volume, source, value);
-    Put::Done
+    match what {
+        Word::Holder => tables::element::hold(elements, place, value, id),
+        Word::Id => tables::element::hold(elements, place, holder, value),
+        _ => tables::element::fill(elements, place, volume, source, value),
+    }
 }
 
 // A field of the element at a place.
-fn field(elements: &mut [u8], what: u8, place: usize, value: u16) -> Put {
+fn field(elements: &mut [u8], what: Word, place: usize, value: u16) -> Result<(), Fault> {
     if elements.len() / layout::ELEMENT_SIZE <= place {
-        return Put::Fault(fault::OUTSIDE);
+        return Err(Fault::Outside);
     }
-    if what == word::VOLUME {
-        let source = tables::element::source(elements, place);
-        let mark = tables::element::mark(elements, place);
-        tables::element::fill(elements, place, value, source, mark);
-        return Put::Done;
+    let volume = tables::element::volume(elements, place);
+    let source = tables::element::source(elements, place);
+    let mark = tables::element::mark(elements, place);
+    match what {
+        Word::Volume => tables::element::fill(elements, place, value, source, mark),
+        Word::Source => tables::element::fill(elements, place, volume, value, mark),
+        _ => {
+            let byte = u8::try_from(value).map_err(|_| Fault::AboveByte)?;
+            small_field(elements, what, place, byte);
+        }
     }
-    if what == word::SOURCE {
-        let volume = tables::element::volume(elements, place);
-        let mark = tables::element::mark(elements, place);
-        tables::element::fill(elements, place, volume, value, mark);
-        return Put::Done;
-    }
-    if 0xFF < value {
-        return Put::Fault(fault::ABOVE_BYTE);
-    }
-    small_field(elements, what, place, value as u8)
+    Ok(())
 }
 
-fn element(what: u8, address: u32, value: u32, state: State, room: &mut [u8]) -> Put {
-    let head = case_rooms::table(state, parts::HEAD, room);
-    if 0xFFFF < value {
-        return Put::Fault(fault::ABOVE_WORD);
-    }
+fn element(line: Line, state: State, room: &mut [u8]) -> Result<(), Fault> {
+    let value = u16::try_from(line.second).map_err(|_| Fault::AboveWord)?;
+    let head = state.table(Table::Head, room);
     if head.len() < layout::HEAD_SIZE {
-        return Put::Fault(fault::OUTSIDE);
+        return Err(Fault::Outside);
     }
-    let Found::At(place) = tables::find(tables::runs(head), address, Types::Any) else {
-        return Put::Fault(fault::NO_ELEMENT);
-    };
-    let start = case_rooms::least(parts::ELEMENTS_AT, room.len());
-    let length = case_rooms::length_of(state, parts::ELEMENTS);
-    let end = start + case_rooms::least(length, room.len() - start);
-    field(&mut room[start..end], what, place, value as u16)
+    let place = tables::find(tables::runs(head), line.first, Types::Any).ok_or(Fault::NoElement)?;
+    let start = parts::ELEMENTS_AT.min(room.len());
+    let end = start + state.length(Table::Elements).min(room.len() - start);
+    field(&mut room[start..end], line.word, place, value)
 }
 
-// How many empty shelves are at an address: one, or none.
-fn empty_shelves(address: u32, head: &[u8], elements: &[u8]) -> u16 {
+// Whether an empty shelf is at an address.
+fn is_empty_shelf(address: u32, head: &[u8], elements: &[u8]) -> bool {
     if head.len() < layout::HEAD_SIZE {
-        return 0;
+        return false;
     }
     let spot = tables::spot_of(tables::runs(head), address);
     if spot.kind != layout::STORAGE {
-        return 0;
+        return false;
     }
     let place = spot.place;
     if elements.len() / layout::ELEMENT_SIZE <= place {
-        return 0;
+        return false;
     }
-    if tables::element::volume(elements, place) == 0 {
-        return 1;
-    }
-    0
+    tables::element::volume(elements, place) == 0
 }
 
-// The number of empty shelves behind a line, where so many were empty at its address, and are.
-fn counted(n: u16, before: u16, behind: u16) -> u16 {
-    if before < behind {
-        if n < 0xFFFF {
-            return n + 1;
-        }
+// The number of empty shelves behind a line, where the shelf at its address was empty, and is.
+fn counted(n: u16, before: bool, behind: bool) -> u16 {
+    match (before, behind) {
+        (false, true) => n.saturating_add(1),
+        (true, false) => n.saturating_sub(1),
+        _ => n,
     }
-    if behind < before {
-        if 0 < n {
-            return n - 1;
-        }
-    }
-    n
 }
 
-fn count(before: u16, behind: u16, head: &mut [u8]) {
+fn count(before: bool, behind: bool, head: &mut [u8]) {
     if head.len() < layout::HEAD_SIZE {
         return;
     }
@@ -125,95 +93,73 @@ fn count(before: u16, behind: u16, head: &mut [u8]) {
 }
 
 // "`set volume` keeps the number of empty shelves": one more where a shelf is emptied, one fewer where one is filled.
-fn element_counted(line: Line, state: State, room: &mut [u8]) -> Put {
+fn element_counted(line: Line, state: State, room: &mut [u8]) -> Result<(), Fault> {
     let address = line.first;
-    let before = empty_shelves(
+    let before = is_empty_shelf(
         address,
-        case_rooms::table(state, parts::HEAD, room),
-        case_rooms::table(state, parts::ELEMENTS, room),
+        state.table(Table::Head, room),
+        state.table(Table::Elements, room),
     );
-    let put = element(line.word, address, line.second, state, room);
-    let behind = empty_shelves(
+    element(line, state, room)?;
+    let behind = is_empty_shelf(
         address,
-        case_rooms::table(state, parts::HEAD, room),
-        case_rooms::table(state, parts::ELEMENTS, room),
+        state.table(Table::Head, room),
+        state.table(Table::Elements, room),
     );
-    let n = case_rooms::least(case_rooms::length_of(state, parts::HEAD), room.len());
-    count(before, behind, &mut room[0..n]);
-    put
+    let n = state.length(Table::Head).min(room.len());
+    count(before, behind, &mut room[..n]);
+    Ok(())
 }
 
 // The number of empty shelves, true or not.
-fn free(value: u32, head: &mut [u8]) -> Put {
-    if 0xFFFF < value {
-        return Put::Fault(fault::ABOVE_WORD);
-    }
+fn free(value: u32, head: &mut [u8]) -> Result<(), Fault> {
+    let shelves = u16::try_from(value).map_err(|_| Fault::AboveWord)?;
     if head.len() < layout::HEAD_SIZE {
-        return Put::Fault(fault::OUTSIDE);
+        return Err(Fault::Outside);
     }
-    tables::head::show(head, value as u16);
-    Put::Done
+    tables::head::show(head, shelves);
+    Ok(())
 }
 
-// "unit holder and prevent mask"
-fn unit_or_mask(what: u8, value: u32, head: &mut [u8]) -> Put {
-    if 0xFF < value {
-        return Put::Fault(fault::ABOVE_BYTE);
+// "unit holder, prevent mask and the number of empty shelves"
+fn unit(what: Word, value: u32, head: &mut [u8]) -> Result<(), Fault> {
+    if what == Word::Free {
+        return free(value, head);
     }
+    let byte = u8::try_from(value).map_err(|_| Fault::AboveByte)?;
     if head.len() < layout::HEAD_SIZE {
-        return Put::Fault(fault::OUTSIDE);
+        return Err(Fault::Outside);
     }
-    if what == word::UNIT {
-        tables::head::hold_unit(head, value as u8);
-        return Put::Done;
+    match what {
+        Word::Unit => tables::head::hold_unit(head, byte),
+        _ => tables::head::set_mask(head, byte),
     }
-    tables::head::set_mask(head, value as u8);
-    Put::Done
+    Ok(())
 }
 
 // "a host's record"
-fn record(host: u32, head: &mut [u8], bytes: &[u8]) -> Put {
+fn record(host: u32, head: &mut [u8], bytes: &[u8]) -> Result<(), Fault> {
     if head.len() < layout::HEAD_SIZE {
-        return Put::Fault(fault::OUTSIDE);
+        return Err(Fault::Outside);
     }
-    if host == 0 {
-        return Put::Fault(fault::NO_HOST);
+    if host < 1 || (layout::HOSTS as u32) < host {
+        return Err(Fault::NoHost);
     }
-    if (layout::HOSTS as u32) < host {
-        return Put::Fault(fault::NO_HOST);
+    match bytes {
+        [key, asc, ascq] => tables::head::note(head, host as u8, *key, *asc, *ascq),
+        [asc, ascq] => tables::head::attend(head, host as u8, *asc, *ascq),
+        _ => return Err(Fault::WrongByteCount),
     }
-    if bytes.len() == 3 {
-        tables::head::note(head, host as u8, bytes[0], bytes[1], bytes[2]);
-        return Put::Done;
-    }
-    if bytes.len() == 2 {
-        tables::head::attend(head, host as u8, bytes[0], bytes[1]);
-        return Put::Done;
-    }
-    Put::Fault(fault::WRONG_BYTE_COUNT)
+    Ok(())
 }
 
-pub fn set(state: State, line: Line, room: &mut [u8], bytes: &[u8]) -> Effect {
-    let what = line.word;
-    let class = class::of(what);
-    if class == class::TABLE {
-        let table = class::which(what);
-        let length = case_rooms::length_of(state, table);
-        return table::with(
-            state,
-            table,
-            table::grow(table, length, line.first, room, bytes),
-        );
+pub fn set(state: State, line: Line, room: &mut [u8], bytes: &[u8]) -> Result<State, Fault> {
+    let head = state.length(Table::Head).min(room.len());
+    match line.word.class() {
+        Class::Table => return table::grow(state, Table::of(line.word), line.first, room, bytes),
+        Class::Element => element_counted(line, state, room)?,
+        Class::Unit => unit(line.word, line.first, &mut room[..head])?,
+        _ => record(line.first, &mut room[..head], bytes)?,
     }
-    if class == class::ELEMENT {
-        return with(state, element_counted(line, state, room));
-    }
-    let n = case_rooms::least(case_rooms::length_of(state, parts::HEAD), room.len());
-    if what == word::FREE {
-        return with(state, free(line.first, &mut room[0..n]));
-    }
-    if class == class::UNIT {
-        return with(state, unit_or_mask(what, line.first, &mut room[0..n]));
-    }
-    with(state, record(line.first, &mut room[0..n], bytes))
+    Ok(state)
 }

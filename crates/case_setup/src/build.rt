@@ -1,10 +1,13 @@
 // The tables of the paper, the ranges, the labels and the lengths.
-ghost use Rattle.std.specs.Prelude.{◌≤◌};
+ghost use Rattle.std.specs.Prelude.{◌<◌, ◌≤◌};
 
 use super::table;
-use super::table::Length;
-use case_rooms::{Effect, State, parts};
-use case_script::{Line, class, fault, word};
+use case_rooms::parts::Table;
+use case_rooms::{State, parts};
+use case_script::Line;
+use case_script::class::Class;
+use case_script::fault::Fault;
+use case_script::word::Word;
 
 // A new volume is of generation 1, and a new drive takes that one: bit 0.
 const FIRST_GENERATION: u8 = 1;
@@ -12,34 +15,31 @@ const FIRST_GENERATION: u8 = 1;
 const TAKES_FIRST: u8 = 0x01;
 
 // "the record of a volume in the tag table"
-fn label(state: State, volume: u32, room: &mut [u8], bytes: &[u8]) -> Effect {
+fn label(state: State, volume: u32, room: &mut [u8], bytes: &[u8]) -> Result<State, Fault> {
     if bytes.len() != layout::TAG_SIZE {
-        return case_rooms::refuse(state, fault::WRONG_BYTE_COUNT);
+        return Err(Fault::WrongByteCount);
     }
-    if volume == 0 {
-        return case_rooms::refuse(state, fault::OUTSIDE);
-    }
-    let before = (volume - 1) as usize;
-    if case_rooms::length_of(state, parts::TAGS) / layout::TAG_SIZE <= before {
-        return case_rooms::refuse(state, fault::OUTSIDE);
+    let volumes = state.length(Table::Tags) / layout::TAG_SIZE;
+    let before = (volume as usize).checked_sub(1).ok_or(Fault::Outside)?;
+    if volumes <= before {
+        return Err(Fault::Outside);
     }
     case_rooms::write(room, parts::TAGS_AT + layout::TAG_SIZE * before, bytes);
-    case_rooms::done(state)
+    Ok(state)
 }
 
-// How long the tables are that have n elements, v volumes and d drives; what is not named here is empty.
-fn sized(state: State, n: usize, v: usize, d: usize) -> Effect
+// How long the tables are that have n elements, v volumes and d drives.
+fn sized(state: State, n: usize, v: usize, d: usize) -> State
     requires { (n ≤ 7) × (v ≤ 3) }
 {
-    let mut s = state;
-    s.sizes = [0; parts::TABLES];
-    s = case_rooms::resized(s, parts::HEAD, layout::HEAD_SIZE);
-    s = case_rooms::resized(s, parts::ELEMENTS, layout::ELEMENT_SIZE * n);
-    s = case_rooms::resized(s, parts::TAGS, layout::TAG_SIZE * v);
-    s = case_rooms::resized(s, parts::BLANK, layout::TAG_SIZE);
-    s = case_rooms::resized(s, parts::GENERATIONS, v);
-    s = case_rooms::resized(s, parts::MASKS, d);
-    case_rooms::done(case_rooms::resized(s, parts::SEARCH, layout::SEARCH_SIZE))
+    state
+        .resized(Table::Head, layout::HEAD_SIZE)
+        .resized(Table::Elements, layout::ELEMENT_SIZE * n)
+        .resized(Table::Tags, layout::TAG_SIZE * v)
+        .resized(Table::Blank, layout::TAG_SIZE)
+        .resized(Table::Generations, v)
+        .resized(Table::Masks, d)
+        .resized(Table::Search, layout::SEARCH_SIZE)
 }
 
 // "a head of 60 zeros, .. a blank label of 36 blanks", and no search: "All zeros means no search"
@@ -68,19 +68,12 @@ fn small_elements(room: &mut [u8]) {
     stock(room, 5, 2);
 }
 
-// A label of one letter.
-fn letters(room: &mut [u8], before: usize, letter: u8)
-    requires { before ≤ 3 }
-{
-    let at = parts::TAGS_AT + layout::TAG_SIZE * before;
-    case_rooms::paint(room, at, layout::TAG_SIZE, letter);
-}
-
 // "volumes 1, 2 and 3 have labels of 36 letters A, B, C"
 fn small_labels(room: &mut [u8]) {
-    letters(room, 0, b'A');
-    letters(room, 1, b'B');
-    letters(room, 2, b'C');
+    for (before, letter) in b"ABC".iter().enumerate() {
+        let at = parts::TAGS_AT + layout::TAG_SIZE * before;
+        case_rooms::paint(room, at, layout::TAG_SIZE, *letter);
+    }
 }
 
 // "both volumes are of generation 1 and the drive takes it"; the third, which is not in, is of it too
@@ -89,35 +82,42 @@ fn small_generations(room: &mut [u8]) {
     case_rooms::paint(room, parts::MASKS_AT, 1, TAKES_FIRST);
 }
 
-fn small(room: &mut [u8]) {
-    empty(room);
-    small_elements(room);
-    small_labels(room);
-    small_generations(room);
-}
-
 // The tables as a whole.
-fn whole(state: State, what: u8, room: &mut [u8]) -> Effect {
-    if what == word::TABLES_SMALL {
-        small(room);
+fn whole(state: State, what: Word, room: &mut [u8]) -> State {
+    empty(room);
+    if what == Word::TablesSmall {
+        small_elements(room);
+        small_labels(room);
+        small_generations(room);
         return sized(state, 7, 3, 1);
     }
-    empty(room);
     sized(state, 0, 0, 0)
 }
 
 // "The element table is then made anew: an empty element for each address of the four ranges."
-fn anew(length: usize, room: &mut [u8]) -> Length {
-    let head = case_rooms::part(room, parts::HEAD_AT, length);
+fn anew(state: State, room: &mut [u8]) -> Result<State, Fault> {
+    let head = state.table(Table::Head, room);
     if head.len() < layout::HEAD_SIZE {
-        return Length::Fault(fault::OUTSIDE);
+        return Err(Fault::Outside);
     }
-    let n = layout::ELEMENT_SIZE * tables::total(tables::ranges(head));
-    if parts::ELEMENTS_MOST < n {
-        return Length::Fault(fault::TOO_LARGE);
+    let elements = tables::total(tables::ranges(head));
+    table::resize(
+        state.resized(Table::Elements, 0),
+        Table::Elements,
+        layout::ELEMENT_SIZE * elements,
+        0,
+        room,
+    )
+}
+
+// How many elements the k-th range of the head counts, from 0 on.
+fn counted(room: &[u8], k: usize) -> u16
+    requires { k < 4 }
+{
+    if room.len() < layout::HEAD_SIZE {
+        return 0;
     }
-    case_rooms::paint(room, parts::ELEMENTS_AT, n, 0);
-    Length::Is(n)
+    wire::word_at(room, layout::RANGE_SIZE * k + layout::RANGE_COUNT)
 }
 
 // Every shelf is empty: there are as many as the second range counts.
@@ -125,99 +125,66 @@ fn all_empty(room: &mut [u8]) {
     if room.len() < layout::HEAD_SIZE {
         return;
     }
-    let shelves = wire::word_at(room, layout::RANGE_SIZE + layout::RANGE_COUNT);
+    let shelves = counted(room, 1);
     tables::head::show(room, shelves);
 }
 
-// "a range of the head": the k-th, from 0 on, of a head of `length` bytes
-fn range(k: usize, first: u32, count: u32, length: usize, room: &mut [u8]) -> Length {
-    if 0xFFFF < first {
-        return Length::Fault(fault::ABOVE_WORD);
+// Which range of the head a word speaks of, from 0 on.
+fn range_of(word: Word) -> usize
+    ensures { result < 4 }
+{
+    match word {
+        Word::Storage => 1,
+        Word::Port => 2,
+        Word::Drive => 3,
+        _ => 0,
     }
-    if 0xFFFF < count {
-        return Length::Fault(fault::ABOVE_WORD);
-    }
-    if room.len() < layout::HEAD_SIZE {
-        return Length::Fault(fault::OUTSIDE);
-    }
-    if layout::RANGES <= k {
-        return Length::Fault(fault::OUTSIDE);
-    }
-    let at = layout::RANGE_SIZE * k;
-    wire::put_word(room, at, first as u16);
-    wire::put_word(room, at + layout::RANGE_COUNT, count as u16);
-    all_empty(room);
-    anew(length, room)
 }
 
-// How many drives there are: as many as the fourth range counts.
-fn drives(room: &[u8]) -> usize {
+// "a range of the head"
+fn range(k: usize, first: u16, count: u16, room: &mut [u8]) -> Result<(), Fault>
+    requires { k < 4 }
+{
     if room.len() < layout::HEAD_SIZE {
-        return 0;
+        return Err(Fault::Outside);
     }
-    wire::word_at(room, layout::RANGE_SIZE * 3 + layout::RANGE_COUNT) as usize
+    let at = layout::RANGE_SIZE * k;
+    wire::put_word(room, at, first);
+    wire::put_word(room, at + layout::RANGE_COUNT, count);
+    all_empty(room);
+    Ok(())
 }
 
 // A range line: the masks are made anew with the elements, one for each drive.
-fn ranged(state: State, line: Line, room: &mut [u8]) -> Effect {
-    let length = case_rooms::length_of(state, parts::HEAD);
-    match range(
-        class::which(line.word),
-        line.first,
-        line.second,
-        length,
-        room,
-    ) {
-        Length::Fault(why) => case_rooms::refuse(state, why),
-        Length::Is(n) => {
-            let s = case_rooms::resized(state, parts::ELEMENTS, n);
-            let d = drives(room);
-            table::with(
-                s,
-                parts::MASKS,
-                table::resize(parts::MASKS, 0, d, TAKES_FIRST, room),
-            )
-        }
-    }
+fn ranged(state: State, line: Line, room: &mut [u8]) -> Result<State, Fault> {
+    let first = u16::try_from(line.first).map_err(|_| Fault::AboveWord)?;
+    let count = u16::try_from(line.second).map_err(|_| Fault::AboveWord)?;
+    range(range_of(line.word), first, count, room)?;
+    let made = anew(state, room)?.resized(Table::Masks, 0);
+    let drives = usize::from(counted(room, 3));
+    table::resize(made, Table::Masks, drives, TAKES_FIRST, room)
 }
 
 // "the tag table has V records; new ones are zeros", and a new volume is of generation 1
-fn volumes(state: State, count: u32, room: &mut [u8]) -> Effect {
+fn volumes(state: State, count: u32, room: &mut [u8]) -> Result<State, Fault> {
     let v = count as usize;
-    let tags = case_rooms::length_of(state, parts::TAGS);
-    let known = case_rooms::length_of(state, parts::GENERATIONS);
-    match table::resize(parts::TAGS, tags, layout::TAG_SIZE * v, 0, room) {
-        Length::Fault(why) => case_rooms::refuse(state, why),
-        Length::Is(n) => table::with(
-            case_rooms::resized(state, parts::TAGS, n),
-            parts::GENERATIONS,
-            table::resize(parts::GENERATIONS, known, v, FIRST_GENERATION, room),
-        ),
-    }
+    let tagged = table::resize(state, Table::Tags, layout::TAG_SIZE * v, 0, room)?;
+    table::resize(tagged, Table::Generations, v, FIRST_GENERATION, room)
 }
 
 // "the table's length in bytes"
-fn lengthen(state: State, line: Line, room: &mut [u8]) -> Effect {
-    if line.word == word::VOLUMES {
+fn lengthen(state: State, line: Line, room: &mut [u8]) -> Result<State, Fault> {
+    if line.word == Word::Volumes {
         return volumes(state, line.first, room);
     }
-    let what = class::which(line.word);
-    let length = case_rooms::length_of(state, what);
-    let n = line.first as usize;
-    table::with(state, what, table::resize(what, length, n, 0, room))
+    table::resize(state, Table::of(line.word), line.first as usize, 0, room)
 }
 
-pub fn build(state: State, line: Line, room: &mut [u8], bytes: &[u8]) -> Effect {
-    let what = line.word;
-    let class = class::of(what);
-    if class == class::WHOLE {
-        return whole(state, what, room);
+pub fn build(state: State, line: Line, room: &mut [u8], bytes: &[u8]) -> Result<State, Fault> {
+    match line.word.class() {
+        Class::Whole => Ok(whole(state, line.word, room)),
+        Class::Range => ranged(state, line, room),
+        Class::Label => label(state, line.first, room, bytes),
+        _ => lengthen(state, line, room),
     }
-    if class == class::RANGE {
-        return ranged(state, line, room);
-    }
-    if class == class::LABEL {
-        return label(state, line.first, room, bytes);
-    }
-    lengthen(state, line, room)
 }

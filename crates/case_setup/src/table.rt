@@ -1,45 +1,38 @@
 // A table: how long it becomes, and how it grows.
-use case_rooms::{Effect, State, parts};
-use case_script::fault;
+use case_rooms::State;
+use case_rooms::parts::Table;
+use case_script::fault::Fault;
 
-// The new length of a table, or why it can't have it.
-#[derive(Clone, Copy)]
-pub enum Length {
-    Is(usize),
-    Fault(u8),
-}
-
-pub fn with(state: State, table: usize, length: Length) -> Effect {
-    match length {
-        Length::Is(n) => case_rooms::done(case_rooms::resized(state, table, n)),
-        Length::Fault(why) => case_rooms::refuse(state, why),
-    }
-}
-
-// "the table's length in bytes; what is added is zeros", or another byte: a table of `length` bytes gets n.
-pub fn resize(table: usize, length: usize, n: usize, added: u8, room: &mut [u8]) -> Length {
-    if parts::most_of(table) < n {
-        return Length::Fault(fault::TOO_LARGE);
+// "the table's length in bytes; what is added is zeros", or another byte: the table gets n bytes.
+pub fn resize(
+    state: State,
+    table: Table,
+    n: usize,
+    added: u8,
+    room: &mut [u8],
+) -> Result<State, Fault> {
+    let part = table.part();
+    let length = state.length(table);
+    if part.most < n {
+        return Err(Fault::TooLarge);
     }
     if length < n {
-        case_rooms::paint(room, parts::begin_of(table) + length, n - length, added);
+        case_rooms::paint(room, part.at + length, n - length, added);
     }
-    Length::Is(n)
+    Ok(state.resized(table, n))
 }
 
-// "A table grows to hold the bytes": a table of `length` bytes gets some from a place on.
-pub fn grow(table: usize, length: usize, at: u32, room: &mut [u8], bytes: &[u8]) -> Length {
+// "A table grows to hold the bytes": the table gets some from a place on.
+pub fn grow(
+    state: State,
+    table: Table,
+    at: u32,
+    room: &mut [u8],
+    bytes: &[u8],
+) -> Result<State, Fault> {
     let from = at as usize;
     let end = from + bytes.len();
-    if parts::most_of(table) < end {
-        return Length::Fault(fault::TOO_LARGE);
-    }
-    let begin = parts::begin_of(table);
-    if length < end {
-        case_rooms::paint(room, begin + length, end - length, 0);
-        case_rooms::write(room, begin + from, bytes);
-        return Length::Is(end);
-    }
-    case_rooms::write(room, begin + from, bytes);
-    Length::Is(length)
+    let grown = resize(state, table, end.max(state.length(table)), 0, room)?;
+    case_rooms::write(room, table.part().at + from, bytes);
+    Ok(grown)
 }

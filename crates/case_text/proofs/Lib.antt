@@ -1,4 +1,3 @@
 pub mod Searching
 pub mod Values
 pub mod Buffers
-pub mod Escapes

@@ -1,11 +1,11 @@
 -- A line of text: its letters as they stand, "`\t` stands for a tab, `\xNN` for any byte", and the line feed behind it. Assumes nothing.
-use Rattle.std.specs.Prelude.{ℕ, ◌+◌, ◌*◌, List, [], length, get_or, eqb, ltb}
+use Rattle.std.specs.Prelude.{ℕ, ◌+◌, List, [], Option, Some, None, Result, Ok, Err, length, get_or, eqb, ltb}
 use Prim.Native.Char.{code}
 use Rattle.rules.specs.Choice.{when}
+use Rattle.case_text.specs.declared.fault.Fault.{Fault}
+use Rattle.case_text.specs.declared.fault.Fault.TheVariants.{NoEscape}
 use Rattle.case_text.specs.declared.bytes.Run.{Run}
-use Rattle.case_text.specs.declared.bytes.Run.TheVariants.{Times, NoRun}
-use Rattle.case_text.specs.Codes.{no_escape}
-use Rattle.case_text.specs.Numbers.{digit_of}
+use Rattle.case_text.specs.Numbers.{digit_of, pair_of}
 use Rattle.case_text.specs.Bytes.{Given, runs_from}
 
 -- the letter at a place of a line; behind the last stands a line feed
@@ -13,22 +13,25 @@ unfoldable pub letter_at : List ℕ → ℕ → ℕ
 letter_at s at = when (ltb at (length s)) (get_or s at 0) (code "\n")
 
 -- a byte of two hexadecimal digits
-unfoldable pub pair_of : ℕ → ℕ → Run
-pair_of high low =
-    when (ltb 15 (digit_of high)) (NoRun no_escape)
-    (when (ltb 15 (digit_of low)) (NoRun no_escape)
-    (Times (digit_of high * 16 + digit_of low) 1))
+abbrev pub escaped : Option ℕ → Result ℕ Fault
+escaped None = Err NoEscape
+escaped (Some b) = Ok b
 
 -- what a backslash and the letters from a place on stand for
-unfoldable pub escape_of : List ℕ → ℕ → Run
+unfoldable pub escape_of : List ℕ → ℕ → Result ℕ Fault
 escape_of s at =
-    when (eqb (letter_at s at) (code "t")) (Times (code "\t") 1)
-    (when (eqb (letter_at s at) (code "x")) (pair_of (letter_at s (at + 1)) (letter_at s (at + 2)))
-    (NoRun no_escape))
+    when (eqb (letter_at s at) (code "t")) (Ok (code "\t"))
+    (when (eqb (letter_at s at) (code "x")) (escaped (pair_of (digit_of (letter_at s (at + 1))) (digit_of (letter_at s (at + 2)))))
+    (Err NoEscape))
+
+-- a byte, once
+abbrev pub once : Result ℕ Fault → Result Run Fault
+once (Err why) = Err why
+once (Ok b) = Ok (record { byte = b; times = 1 })
 
 -- the byte that the letter at a place stands for, and the place of the next letter
-unfoldable pub letter_of : List ℕ → ℕ → Run
-letter_of s at = when (eqb (letter_at s at) (code "\\")) (escape_of s (at + 1)) (Times (letter_at s at) 1)
+unfoldable pub letter_of : List ℕ → ℕ → Result Run Fault
+letter_of s at = once (when (eqb (letter_at s at) (code "\\")) (escape_of s (at + 1)) (Ok (letter_at s at)))
 
 unfoldable pub letter_end : List ℕ → ℕ → ℕ
 letter_end s at =

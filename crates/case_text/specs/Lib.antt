@@ -1,5 +1,4 @@
 pub mod Text
-pub mod Codes
 pub mod Numbers
 pub mod Bytes
 pub mod Letters

@@ -1,8 +1,12 @@
 -- A line as text: where its comment begins, and where its words begin and end. Assumes nothing.
-use Rattle.std.specs.Prelude.{ℕ, zero, suc, ◌+◌, ◌-◌, List, [], ◌∷◌, Bool, true, false, not, length, get_or, take, drop, eqb}
+use Rattle.std.specs.Prelude.{ℕ, ◌+◌, ◌-◌, List, [], ◌∷◌, Bool, true, not, take, drop, eqb}
+use Rattle.std.specs.List.{position_or_len}
+use Rattle.std.specs.Str.{bytes_eq}
 use Prim.Native.Char.{code}
 use Prim.Native.String.{String, [] as none, ◌∷◌ as ◌then◌}
 use Rattle.rules.specs.Choice.{when}
+use Rattle.case_text.specs.declared.Sought.{Sought}
+use Rattle.case_text.specs.declared.Sought.TheVariants.{Hash, Star, Gap, Word, Break, Byte}
 
 -- a quoted text as bytes
 unfoldable pub letters : String → List ℕ
@@ -14,47 +18,42 @@ unfoldable pub blank : ℕ → Bool
 blank b = when (eqb b (code " ")) true (when (eqb b (code "\t")) true (eqb b (code "\r")))
 
 -- "with blanks or `/` between them"
-unfoldable pub break : ℕ → Bool
+abbrev pub break : ℕ → Bool
 break b = when (eqb b (code "/")) true (blank b)
 
--- whether a search stops at a byte: by its number it looks for `#`, `*`, a blank, what is no blank, a break, what is no break
-unfoldable pub stops : ℕ → ℕ → Bool
-stops what b =
-    when (eqb what 0) (eqb b (code "#"))
-    (when (eqb what 1) (eqb b (code "*"))
-    (when (eqb what 2) (blank b)
-    (when (eqb what 3) (not (blank b))
-    (when (eqb what 4) (break b) (not (break b))))))
+-- whether a search stops at a byte
+unfoldable pub stops : Sought → ℕ → Bool
+stops Hash b = eqb b (code "#")
+stops Star b = eqb b (code "*")
+stops Gap b = blank b
+stops Word b = not (blank b)
+stops Break b = break b
+stops Byte b = not (break b)
 
--- the first place where the search stops, of the n from i on; else the place behind them
-unfoldable pub first_from : ℕ → List ℕ → ℕ → ℕ → ℕ
-first_from what s zero i = i
-first_from what s (suc n) i = when (stops what (get_or s i 0)) i (first_from what s n (suc i))
-
--- the first from i on, or the text's end
-unfoldable pub first : ℕ → List ℕ → ℕ → ℕ
-first what s i = first_from what s (length s - i) i
+-- the first place from i on where the search stops, or the text's end
+unfoldable pub first : Sought → List ℕ → ℕ → ℕ
+first what s i = i + position_or_len (stops what) (drop i s)
 
 -- "`#` begins a comment that goes to the end of the line"
 abbrev pub comment_at : List ℕ → ℕ
-comment_at s = first 0 s 0
+comment_at s = first Hash s 0
 
 abbrev pub star_at : List ℕ → ℕ
-star_at s = first 1 s 0
+star_at s = first Star s 0
 
 -- where the next word begins, from i on, and where the word that begins at i ends
 abbrev pub word_start : List ℕ → ℕ → ℕ
-word_start s i = first 3 s i
+word_start s i = first Word s i
 
 abbrev pub word_end : List ℕ → ℕ → ℕ
-word_end s i = first 2 s i
+word_end s i = first Gap s i
 
 -- where the next byte begins, and where the byte that begins at i ends, with its star and number
 abbrev pub byte_start : List ℕ → ℕ → ℕ
-byte_start s i = first 5 s i
+byte_start s i = first Byte s i
 
 abbrev pub byte_end : List ℕ → ℕ → ℕ
-byte_end s i = first 4 s (i + 1)
+byte_end s i = first Break s (i + 1)
 
 -- the text from one place to another
 abbrev pub between : List ℕ → ℕ → ℕ → List ℕ
@@ -65,8 +64,5 @@ abbrev pub word_at : List ℕ → ℕ → List ℕ
 word_at s i = between s (word_start s i) (word_end s (word_start s i))
 
 -- letter for letter the same
-unfoldable pub same_word : List ℕ → List ℕ → Bool
-same_word [] [] = true
-same_word [] (y ∷ ys) = false
-same_word (x ∷ xs) [] = false
-same_word (x ∷ xs) (y ∷ ys) = when (eqb x y) (same_word xs ys) false
+abbrev pub same_word : List ℕ → List ℕ → Bool
+same_word a b = bytes_eq a b

@@ -1,10 +1,16 @@
 // Why a number, a byte or a text can not be read.
-pub const NUMBER_EXPECTED: u8 = 2;
+#[derive(Clone, Copy, PartialEq, Eq)]
+pub enum Fault {
+    NumberExpected,
+    NumberTooLarge,
+    ByteExpected,
+    TooManyBytes,
+    NoEscape,
+}
 
-pub const NUMBER_TOO_LARGE: u8 = 3;
-
-pub const BYTE_EXPECTED: u8 = 4;
-
-pub const TOO_MANY_BYTES: u8 = 5;
-
-pub const NO_ESCAPE: u8 = 21;
+// Why it can not be read, and where. case_script has a type of its own for its lines: one generic type would be written with its argument in every definition of both, and is no plainer.
+#[derive(Clone, Copy, PartialEq, Eq)]
+pub struct Stop {
+    pub why: Fault,
+    pub at: usize,
+}

@@ -6,96 +6,74 @@ pub mod fault;
 pub mod letters;
 pub mod number;
 
-ghost use Rattle.std.specs.Prelude.{◌≡◌, ◌≤◌, length};
+ghost use Rattle.std.specs.Prelude.{◌≡◌, ◌≤◌, length, position};
 ghost use Rattle.case_text.specs.Text.{blank, break, stops, first, same_word};
 
-// What a search looks for.
-pub const HASH: u8 = 0;
-
-pub const STAR: u8 = 1;
-
-pub const GAP: u8 = 2;
-
-pub const WORD: u8 = 3;
-
-pub const BREAK: u8 = 4;
-
-pub const BYTE: u8 = 5;
+// What a search looks for: `#`, `*`, a blank, what is no blank, what stands between bytes, what does not.
+#[derive(Clone, Copy, PartialEq, Eq)]
+pub enum Sought {
+    Hash,
+    Star,
+    Gap,
+    Word,
+    Break,
+    Byte,
+}
 
 // Space, tab and carriage return.
+#[tactic(auto, unfolding(crate::specs::Text::blank, rules::specs::Choice::when))]
 pub fn is_blank(b: u8) -> bool
     ensures { result ≡ blank b }
 {
-    if b == b' ' {
-        return true;
-    }
-    if b == b'\t' {
-        return true;
-    }
-    b == b'\r'
+    matches!(b, b' ' | b'\t' | b'\r')
 }
 
 // "with blanks or `/` between them"
+#[tactic(auto, unfolding(rules::specs::Choice::when))]
 fn is_break(b: u8) -> bool
     ensures { result ≡ break b }
 {
-    if b == b'/' {
-        return true;
-    }
-    is_blank(b)
+    b == b'/' || is_blank(b)
 }
 
-// Whether a search stops at a byte: GAP is a blank and WORD is none, BREAK stands between bytes and BYTE does not.
-fn stops_at(what: u8, b: u8) -> bool
+// Whether a search stops at a byte. By a match, and not by a closure that each caller gives: the definitions `stops` and `first` name what is sought.
+#[tactic(auto, unfolding(crate::specs::Text::stops))]
+fn stops_at(what: Sought, b: u8) -> bool
     ensures { result ≡ stops what b }
 {
-    if what == HASH {
-        return b == b'#';
+    match what {
+        Sought::Hash => b == b'#',
+        Sought::Star => b == b'*',
+        Sought::Gap => is_blank(b),
+        Sought::Word => !is_blank(b),
+        Sought::Break => is_break(b),
+        Sought::Byte => !is_break(b),
     }
-    if what == STAR {
-        return b == b'*';
-    }
-    if what == GAP {
-        return is_blank(b);
-    }
-    if what == WORD {
-        return !is_blank(b);
-    }
-    if what == BREAK {
-        return is_break(b);
-    }
-    !is_break(b)
+}
+
+// The first place where the search stops, if it does.
+fn stop_in(text: &[u8], what: Sought) -> Option<usize>
+    ensures { result ≡ position (stops what) text.now }
+{
+    text.iter().position(|b| stops_at(what, *b))
 }
 
 // The first place from `from` on where the search stops, or the text's end.
-pub fn find(text: &[u8], from: usize, what: u8) -> usize
+#[tactic(auto, unfolding(crate::specs::Text::first))]
+pub fn find(text: &[u8], from: usize, what: Sought) -> usize
     requires { from ≤ length text.now }
     ensures value { result ≡ first what text.now from }
     ensures lower_bound { (from ≤ result) × (result ≤ length text.now) }
 {
-    let mut i = from;
-    while i < text.len() {
-        if stops_at(what, text[i]) {
-            return i;
-        }
-        i += 1;
+    match stop_in(&text[from..], what) {
+        Some(n) => from + n,
+        None => text.len(),
     }
-    i
 }
 
-// Whether two words are the same, letter for letter.
+// Whether two words are the same, letter for letter. It stays, as `==`, for the edit `word_prefix_is_enough` and the definition `same_word`.
 pub fn same(a: &[u8], b: &[u8]) -> bool
     ensures { result ≡ same_word a.now b.now }
 {
-    if a.len() != b.len() {
-        return false;
-    }
-    let mut i: usize = 0;
-    while i < a.len() {
-        if a[i] != b[i] {
-            return false;
-        }
-        i += 1;
-    }
-    true
+    a == b
 }

@@ -1,87 +1,70 @@
 // Numbers: "decimal, or hexadecimal with an `h` behind them, as the paper writes them".
-ghost use Rattle.std.specs.Prelude.{◌≡◌, ◌+◌, ◌*◌, ◌≤◌};
-ghost use Rattle.case_text.specs.Numbers.{digit_of, largest, value_of, number_of};
+ghost use Rattle.std.specs.Prelude.{◌≡◌, ◌<◌, IfSome};
+ghost use Rattle.case_text.specs.Numbers.{digit_of, longer_by, value_of, number_of, pair_of};
 
-use crate::fault;
-
-const LARGEST: u64 = 4294967295;
-
-// More than any digit.
-const NONE: u8 = 255;
-
-#[derive(Clone, Copy)]
-pub enum Number {
-    Is(u32),
-    Bad(u8),
-}
+use crate::fault::Fault;
 
 // The value of a hexadecimal digit.
-pub fn digit(b: u8) -> u8
-    ensures { result ≡ digit_of b }
+#[tactic(auto, unfolding(crate::specs::Numbers::digit_of, rules::specs::Choice::when))]
+pub fn digit(b: u8) -> Option<u8>
+    ensures value { result ≡ digit_of b }
+    ensures upper_bound { IfSome result (λ d. d < 16) }
 {
-    if b < b'0' {
-        return NONE;
+    match b {
+        b'0'..=b'9' => Some(b - b'0'),
+        b'A'..=b'F' => Some(b - b'A' + 10),
+        b'a'..=b'f' => Some(b - b'a' + 10),
+        _ => None,
     }
-    if b <= b'9' {
-        return b - b'0';
-    }
-    if b < b'A' {
-        return NONE;
-    }
-    if b <= b'F' {
-        return b - b'A' + 10;
-    }
-    if b < b'a' {
-        return NONE;
-    }
-    if b <= b'f' {
-        return b - b'a' + 10;
-    }
-    NONE
+}
+
+// The byte that two hexadecimal digits write.
+pub fn pair(high: u8, low: u8) -> Option<u8>
+    ensures { result ≡ pair_of (digit_of high) (digit_of low) }
+{
+    Some(digit(high)? * 16 + digit(low)?)
 }
 
 // One digit more behind a number.
-fn longer(n: u64, base: u8, d: u8) -> u64
-    requires { n ≤ largest }
-    ensures { result ≡ n * base + d }
+#[tactic(auto, unfolding(rules::specs::Choice::when))]
+fn longer(n: u32, base: u8, b: u8) -> Result<u32, Fault>
+    ensures { result ≡ longer_by base n (digit_of b) }
 {
-    n * (base as u64) + (d as u64)
+    let Some(d) = digit(b) else {
+        return Err(Fault::NumberExpected);
+    };
+    if base <= d {
+        return Err(Fault::NumberExpected);
+    }
+    let longer = u64::from(n) * u64::from(base) + u64::from(d);
+    u32::try_from(longer).map_err(|_| Fault::NumberTooLarge)
 }
 
 // What the digits say in a base.
-pub fn value(digits: &[u8], base: u8) -> Number
+#[tactic(auto, unfolding(crate::specs::Numbers::value_of, rules::specs::Choice::when))]
+pub fn value(digits: &[u8], base: u8) -> Result<u32, Fault>
     ensures { result ≡ value_of base digits.now }
 {
-    if digits.len() == 0 {
-        return Number::Bad(fault::NUMBER_EXPECTED);
+    if digits.is_empty() {
+        return Err(Fault::NumberExpected);
     }
-    let mut n: u64 = 0;
-    let mut i: usize = 0;
-    while i < digits.len() {
-        let d = digit(digits[i]);
-        if base <= d {
-            return Number::Bad(fault::NUMBER_EXPECTED);
-        }
-        n = longer(n, base, d);
-        if LARGEST < n {
-            return Number::Bad(fault::NUMBER_TOO_LARGE);
-        }
-        i += 1;
+    let mut n: u32 = 0;
+    for b in digits {
+        n = longer(n, base, *b)?;
     }
-    Number::Is(n as u32)
+    Ok(n)
 }
 
 // The number that a word writes.
-pub fn number_in(word: &[u8]) -> Number
+#[tactic(auto, unfolding(crate::specs::Numbers::number_of, rules::specs::Choice::when))]
+pub fn number_in(word: &[u8]) -> Result<u32, Fault>
     ensures { result ≡ number_of word.now }
 {
-    let n = word.len();
-    if n == 0 {
-        return Number::Bad(fault::NUMBER_EXPECTED);
-    }
-    let last = n - 1;
-    if word[last] == b'h' {
-        return value(&word[..last], 16);
+    let Some((last, digits)) = word.split_last() else {
+        return Err(Fault::NumberExpected);
+    };
+    if *last == b'h' {
+        return value(digits, 16);
     }
     value(word, 10)
 }

@@ -8,30 +8,25 @@ use Rattle.rules.specs.Roster.{roster}
 use Rattle.rules.proofs.Ladder.{lt_not}
 use Rattle.tables.specs.declared.Range.{Range}
 use Rattle.tables.specs.declared.Types.TheVariants.{Any}
-use Rattle.tables.specs.declared.Found.{Found}
-use Rattle.tables.specs.declared.Found.TheVariants.{At, Nothing}
 use Rattle.tables.specs.LookUp.{found}
 use Rattle.tables.specs.Ranges.{laid, Runs}
 use Rattle.tables.proofs.Roster.{runs-laid}
-use Rattle.case_script.specs.Codes.{no_element}
-use Rattle.case_trial.specs.Asked.{field_at, field_in, element_field, joined}
-use Rattle.case_trial.specs.declared.judge.Value.{Value}
-use Rattle.case_trial.specs.declared.judge.Value.TheVariants.{Is, Missing}
+use Rattle.case_script.specs.declared.word.Word.{Word}
+use Rattle.std.proofs.Common.{Option, Some, None, Result, Ok, Err}
+use Rattle.case_script.specs.declared.fault.Fault.{Fault}
+use Rattle.case_script.specs.declared.fault.Fault.TheVariants.{NoElement}
+use Rattle.case_trial.specs.Asked.{field_at, field_in, element_field}
 
 -- the answer f of a look-up of the address a
-module _ (head elements : List ℕ) (w a : ℕ) (runs : List Range) (f : Found) (r : Runs runs head) (l : f ≡ found Any (laid runs) a)
+module _ (head elements : List ℕ) (w : Word) (a : ℕ) (runs : List Range) (f : Option ℕ) (r : Runs runs head) (l : f ≡ found Any (laid runs) a)
     (h : head_size ≤ length head) where
   looked : f ≡ found Any (roster head) a
   looked = rw (runs-laid runs head r) at l
 
-  pub no-element : f ≡ Nothing → Missing no_element ≡ element_field head elements w a
+  pub no-element : f ≡ None → Err NoElement ≡ element_field head elements w a
   unfolding element_field field_in
   no-element e = lt_not _ _ _ _ _ h (rw (sym looked ∙ e) refl)
 
-  pub an-element : (p : ℕ) (v : Value) → f ≡ At p → v ≡ field_at elements w p → v ≡ element_field head elements w a
+  pub an-element : (p : ℕ) (v : Result ℕ Fault) → f ≡ Some p → v ≡ field_at elements w p → v ≡ element_field head elements w a
   unfolding element_field field_in
   an-element p v e i = lt_not _ _ _ _ _ h (rw (sym looked ∙ e) i)
-
--- key, ASC and ASCQ as they were read
-pub joined_is : (r k a q k' a' q' : ℕ) → r ≡ joined k a q → k ≡ k' → a ≡ a' → q ≡ q' → Is r ≡ Is (joined k' a' q')
-joined_is r k a q k' a' q' e f g h = cc

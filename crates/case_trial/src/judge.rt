@@ -1,28 +1,27 @@
 // What is expected, against what is found.
-ghost use Rattle.std.specs.Prelude.{◌≡◌, length};
+ghost use Rattle.std.specs.Prelude.{◌≡◌, ◌≤◌, length};
+ghost use Rattle.rules.specs.Tables.{head_size, hosts};
 ghost use Rattle.case_rooms.specs.Parts.{part as part_of};
 ghost use Rattle.case_rooms.specs.Alike.{compared, compared_bytes};
 ghost use Rattle.case_trial.specs.Asked.{barred_by_replay, barred as barredOf, replied as repliedOf, ended as ended_of, field_at, element_field, unit_field};
-ghost use Rattle.case_trial.specs.Asked.{joined as joinedOf, host_record, against as againstOf};
+ghost use Rattle.case_trial.specs.Asked.{joined as joinedOf, record_of, host_record, against as againstOf};
 
-use case_rooms::{Difference, Finding, Replayed, State, parts};
-use case_script::{Line, class, fault, word};
+use case_rooms::parts::{self, Table};
+use case_rooms::{Call, Difference, Ending, Finding, Replayed, State};
+use case_script::Line;
+use case_script::class::Class;
+use case_script::fault::Fault;
+use case_script::word::Word;
 use order::Reply;
-use tables::{Found, Types};
+use tables::Types;
 
 const HOSTS: u32 = layout::HOSTS as u32;
 
 // The largest number of a line.
 const LARGEST: usize = 4294967295;
 
-// A value that a line asks for, or why there is none.
-#[derive(Clone, Copy)]
-pub enum Value {
-    Is(u32),
-    Missing(u8),
-}
-
-fn compare(what: u8, found: u32, expected: u32) -> Finding
+#[tactic(auto, unfolding(case_rooms::specs::Alike::compared, rules::specs::Choice::when))]
+fn compare(what: Word, found: u32, expected: u32) -> Finding
     ensures { result ≡ compared what found expected }
 {
     if found == expected {
@@ -36,314 +35,292 @@ fn compare(what: u8, found: u32, expected: u32) -> Finding
     })
 }
 
-fn against(what: u8, value: Value, expected: u32) -> Finding
+// A value that a line asks for, or why there is none, against the one expected.
+#[tactic(auto, unfolding(crate::specs::Asked::against))]
+fn against(what: Word, value: Result<u32, Fault>, expected: u32) -> Result<Finding, Fault>
     ensures { result ≡ againstOf what value expected }
 {
-    match value {
-        Value::Is(found) => compare(what, found, expected),
-        Value::Missing(why) => Finding::Fault(why),
-    }
+    Ok(compare(what, value?, expected))
 }
 
 // Bytes against those expected, of which there must be as many; the first of them stands at a place.
-fn bytes(what: u8, at: u32, found: &[u8], expected: &[u8]) -> Finding
+fn bytes(what: Word, at: u32, found: &[u8], expected: &[u8]) -> Result<Finding, Fault>
     ensures { result ≡ compared_bytes what at found.now expected.now }
 {
     if found.len() != expected.len() {
-        return Finding::Fault(fault::OUTSIDE);
+        return Err(Fault::Outside);
     }
     let i = case_rooms::alike(found, expected);
     if i < found.len() {
-        return Finding::Differs(Difference {
+        return Ok(Finding::Differs(Difference {
             what,
             at: (at as usize) + i,
-            found: case_rooms::wide(found[i]),
-            expected: case_rooms::wide(expected[i]),
-        });
+            found: u32::from(found[i]),
+            expected: u32::from(expected[i]),
+        }));
     }
-    Finding::Same
+    Ok(Finding::Same)
 }
 
 // "the bytes of a table from byte AT on"
-fn bytes_at(what: u8, at: u32, table: &[u8], expected: &[u8]) -> Finding
+fn bytes_at(what: Word, at: u32, table: &[u8], expected: &[u8]) -> Result<Finding, Fault>
     ensures { result ≡ compared_bytes what at (part_of table.now at (length expected.now)) expected.now }
 {
-    bytes(
-        what,
-        at,
-        case_rooms::part(table, at as usize, expected.len()),
-        expected,
-    )
+    let found = case_rooms::part(table, at as usize, expected.len());
+    bytes(what, at, found, expected)
 }
 
 // "the reply of the last call"
-fn replied(reply: Reply, what: u8) -> u32
+#[tactic(auto, unfolding(crate::specs::Asked::replied))]
+fn replied(reply: Reply, what: Word) -> u32
     ensures { result ≡ repliedOf reply what }
 {
-    if what == word::NUMBER {
-        return reply.number as u32;
+    match what {
+        Word::Number => u32::from(reply.number),
+        Word::Status => u32::from(reply.status),
+        Word::Count => reply.count,
+        Word::Preventers => u32::from(reply.preventers),
+        _ => u32::from(reply.lowest),
     }
-    if what == word::STATUS {
-        return reply.status as u32;
-    }
-    if what == word::COUNT {
-        return reply.count;
-    }
-    if what == word::PREVENTERS {
-        return reply.preventers as u32;
-    }
-    reply.lowest as u32
 }
 
 // "what the last replay ended with"
-fn ended(ended: Replayed, what: u8) -> u32
+#[tactic(auto, unfolding(crate::specs::Asked::ended))]
+fn ended(ended: Replayed, what: Word) -> u32
     ensures { result ≡ ended_of ended what }
 {
-    if what == word::NUMBER {
-        return ended.number;
+    match what {
+        Word::Number => ended.number,
+        Word::Lines => ended.lines,
+        Word::Place => ended.place.min(LARGEST) as u32,
+        _ => ended.expected,
     }
-    if what == word::LINES {
-        return ended.lines;
-    }
-    if what == word::PLACE {
-        return case_rooms::least(ended.place, LARGEST) as u32;
-    }
-    ended.expected
 }
 
-// Why what a word asks for can not be judged behind a replay; 0 where it can.
-fn barred_by_replay(what: u8) -> u8
+// Why what a word asks for can not be judged behind a replay, if it can't.
+#[tactic(auto, unfolding(crate::specs::Asked::barred_by_replay, crate::specs::Asked::barred_by_class))]
+fn barred_by_replay(what: Word) -> Option<Fault>
     ensures { result ≡ barred_by_replay what }
 {
-    if what == word::NUMBER {
-        return 0;
+    if what == Word::Number {
+        return None;
     }
-    let class = class::of(what);
-    if class == class::REPLY {
-        return fault::REPLAYED;
+    match what.class() {
+        Class::Reply | Class::Answer => Some(Fault::Replayed),
+        _ => None,
     }
-    if class == class::ANSWER {
-        return fault::REPLAYED;
-    }
-    0
 }
 
 // The same behind the last call, which was a replay or not.
-fn barred(replayed: bool, what: u8) -> u8
-    ensures { result ≡ barredOf replayed what }
+#[tactic(auto, unfolding(crate::specs::Asked::barred, crate::specs::Asked::barred_by_call))]
+fn barred(ending: Ending, what: Word) -> Option<Fault>
+    ensures { result ≡ barredOf ending what }
 {
-    if replayed {
-        return barred_by_replay(what);
+    match (ending, what.class()) {
+        (Ending::Replayed(_), _) => barred_by_replay(what),
+        (_, Class::Replayed) => Some(Fault::NotReplayed),
+        _ => None,
     }
-    if class::of(what) == class::REPLAYED {
-        return fault::NOT_REPLAYED;
-    }
-    0
 }
 
 // A field of the element at a place.
-fn field(elements: &[u8], what: u8, place: usize) -> Value
+#[tactic(auto, unfolding(crate::specs::Asked::field_at, crate::specs::Asked::field_of, rules::specs::Tables::places, rules::specs::Choice::when))]
+fn field(elements: &[u8], what: Word, place: usize) -> Result<u32, Fault>
     ensures { result ≡ field_at elements.now what place }
 {
     if elements.len() / layout::ELEMENT_SIZE <= place {
-        return Value::Missing(fault::OUTSIDE);
+        return Err(Fault::Outside);
     }
-    if what == word::VOLUME {
-        return Value::Is(tables::element::volume(elements, place) as u32);
-    }
-    if what == word::SOURCE {
-        return Value::Is(tables::element::source(elements, place) as u32);
-    }
-    if what == word::HOLDER {
-        return Value::Is(tables::element::holder(elements, place) as u32);
-    }
-    if what == word::ID {
-        return Value::Is(tables::element::id(elements, place) as u32);
-    }
-    Value::Is(tables::element::mark(elements, place) as u32)
+    Ok(match what {
+        Word::Volume => u32::from(tables::element::volume(elements, place)),
+        Word::Source => u32::from(tables::element::source(elements, place)),
+        Word::Holder => u32::from(tables::element::holder(elements, place)),
+        Word::Id => u32::from(tables::element::id(elements, place)),
+        _ => u32::from(tables::element::mark(elements, place)),
+    })
 }
 
 // "the element at an address"
-fn element(head: &[u8], elements: &[u8], what: u8, address: u32) -> Value
+fn element(head: &[u8], elements: &[u8], what: Word, address: u32) -> Result<u32, Fault>
     ensures { result ≡ element_field head.now elements.now what address }
 {
     if head.len() < layout::HEAD_SIZE {
-        return Value::Missing(fault::OUTSIDE);
+        return Err(Fault::Outside);
     }
-    let Found::At(place) = tables::find(tables::runs(head), address, Types::Any) else {
-        return Value::Missing(fault::NO_ELEMENT);
+    let Some(place) = tables::find(tables::runs(head), address, Types::Any) else {
+        return Err(Fault::NoElement);
     };
     field(elements, what, place)
 }
 
 // "unit holder, prevent mask and the number of empty shelves"
-fn unit_field(head: &[u8], what: u8) -> Value
+#[tactic(auto, unfolding(crate::specs::Asked::unit_field, crate::specs::Asked::unit_of, rules::specs::Choice::when))]
+fn unit_field(head: &[u8], what: Word) -> Result<u32, Fault>
     ensures { result ≡ unit_field head.now what }
 {
     if head.len() < layout::HEAD_SIZE {
-        return Value::Missing(fault::OUTSIDE);
+        return Err(Fault::Outside);
     }
-    if what == word::UNIT {
-        return Value::Is(tables::head::unit(head) as u32);
-    }
-    if what == word::MASK {
-        return Value::Is(tables::head::mask(head) as u32);
-    }
-    Value::Is(tables::head::panel(head) as u32)
+    Ok(match what {
+        Word::Unit => u32::from(tables::head::unit(head)),
+        Word::Mask => u32::from(tables::head::mask(head)),
+        _ => u32::from(tables::head::panel(head)),
+    })
 }
 
 // Key, ASC and ASCQ as one number.
 fn joined(key: u8, asc: u8, ascq: u8) -> u32
     ensures { result ≡ joinedOf key asc ascq }
 {
-    (key as u32) * 65536 + (wire::join(asc, ascq) as u32)
+    u32::from(key) * 65536 + u32::from(wire::join(asc, ascq))
 }
 
-// "a host's record": the sense where three bytes are expected, else the attention
-fn record(head: &[u8], what: u8, host: u32) -> Value
+// The codes of a host that the unit knows: the sense where three bytes are expected, else the attention.
+#[tactic(auto, unfolding(crate::specs::Asked::record_of))]
+fn told(head: &[u8], what: Word, host: u8) -> u32
+    requires whole { head_size ≤ length head.now }
+    requires known { host ≤ hosts }
+    ensures { result ≡ record_of head.now what host }
+{
+    match what {
+        Word::Sense => joined(
+            tables::head::key(head, host),
+            tables::head::asc(head, host),
+            tables::head::ascq(head, host),
+        ),
+        _ => joined(
+            0,
+            tables::head::attention(head, host),
+            tables::head::attentionq(head, host),
+        ),
+    }
+}
+
+// "a host's record"
+#[tactic(auto, unfolding(crate::specs::Asked::host_record, rules::specs::Sound::within, rules::specs::Choice::when))]
+fn record(head: &[u8], what: Word, host: u32) -> Result<u32, Fault>
     ensures { result ≡ host_record head.now what host }
 {
     if head.len() < layout::HEAD_SIZE {
-        return Value::Missing(fault::OUTSIDE);
+        return Err(Fault::Outside);
     }
-    if host < 1 {
-        return Value::Missing(fault::NO_HOST);
+    if !(1..=HOSTS).contains(&host) {
+        return Err(Fault::NoHost);
     }
-    if HOSTS < host {
-        return Value::Missing(fault::NO_HOST);
-    }
-    let h = host as u8;
-    if what == word::SENSE {
-        return Value::Is(joined(
-            tables::head::key(head, h),
-            tables::head::asc(head, h),
-            tables::head::ascq(head, h),
-        ));
-    }
-    Value::Is(joined(
-        0,
-        tables::head::attention(head, h),
-        tables::head::attentionq(head, h),
-    ))
+    Ok(told(head, what, host as u8))
 }
 
 // The codes that a line gives, as one number.
 fn codes(bytes: &[u8]) -> u32 {
-    if bytes.len() == 3 {
-        return joined(bytes[0], bytes[1], bytes[2]);
+    match bytes {
+        [key, asc, ascq] => joined(*key, *asc, *ascq),
+        [asc, ascq] => joined(0, *asc, *ascq),
+        _ => 0,
     }
-    if bytes.len() == 2 {
-        return joined(0, bytes[0], bytes[1]);
-    }
-    0
 }
 
+// A table that a call writes: the words that tell of its bytes and its length, and where it was kept.
+struct Written {
+    table: Table,
+    bytes: Word,
+    length: Word,
+    kept_at: usize,
+}
+
+const WRITTEN: [Written; 3] = [
+    Written {
+        table: Table::Head,
+        bytes: Word::Head,
+        length: Word::LengthHead,
+        kept_at: parts::KEPT_HEAD_AT,
+    },
+    Written {
+        table: Table::Elements,
+        bytes: Word::Elements,
+        length: Word::LengthElements,
+        kept_at: parts::KEPT_ELEMENTS_AT,
+    },
+    Written {
+        table: Table::Search,
+        bytes: Word::Search,
+        length: Word::LengthSearch,
+        kept_at: parts::KEPT_SEARCH_AT,
+    },
+];
+
 // A table against what it was, where a length that changed is told as one.
-fn kept_table(what: u8, length: u8, found: &[u8], before: &[u8]) -> Finding {
+fn kept_table(written: &Written, found: &[u8], before: &[u8]) -> Result<Finding, Fault> {
     if found.len() != before.len() {
-        return Finding::Differs(Difference {
-            what: length,
+        return Ok(Finding::Differs(Difference {
+            what: written.length,
             at: 0,
-            found: (case_rooms::least(found.len(), 65536)) as u32,
-            expected: (case_rooms::least(before.len(), 65536)) as u32,
-        });
+            found: found.len().min(65536) as u32,
+            expected: before.len().min(65536) as u32,
+        }));
     }
-    bytes(what, 0, found, before)
+    bytes(written.bytes, 0, found, before)
 }
 
 // "head, elements and search are byte for byte what they were before the last call"
-fn kept(state: State, room: &[u8]) -> Finding {
-    let before = state.kept;
-    let first = kept_table(
-        word::HEAD,
-        word::LENGTH_HEAD,
-        case_rooms::table(state, parts::HEAD, room),
-        case_rooms::part(room, parts::KEPT_HEAD_AT, before[parts::HEAD]),
-    );
-    let Finding::Same = first else {
-        return first;
-    };
-    let second = kept_table(
-        word::ELEMENTS,
-        word::LENGTH_ELEMENTS,
-        case_rooms::table(state, parts::ELEMENTS, room),
-        case_rooms::part(room, parts::KEPT_ELEMENTS_AT, before[parts::ELEMENTS]),
-    );
-    let Finding::Same = second else {
-        return second;
-    };
-    kept_table(
-        word::SEARCH,
-        word::LENGTH_SEARCH,
-        case_rooms::table(state, parts::SEARCH, room),
-        case_rooms::part(room, parts::KEPT_SEARCH_AT, before[parts::SEARCH]),
-    )
-}
-
-// What a line asks of the fields of the head.
-fn of_head(line: Line, head: &[u8], expected: &[u8]) -> Finding {
-    let what = line.word;
-    if class::of(what) == class::UNIT {
-        return against(what, unit_field(head, what), line.first);
+fn kept(state: State, call: Call, room: &[u8]) -> Result<Finding, Fault> {
+    for written in &WRITTEN {
+        let found = state.table(written.table, room);
+        let before = case_rooms::part(room, written.kept_at, call.kept[written.table as usize]);
+        let finding = kept_table(written, found, before)?;
+        if let Finding::Differs(_) = finding {
+            return Ok(finding);
+        }
     }
-    against(what, record(head, what, line.first), codes(expected))
+    Ok(Finding::Same)
 }
 
 // What a line asks of the tables.
-fn of_tables(state: State, line: Line, room: &[u8], expected: &[u8]) -> Finding {
+fn of_tables(
+    state: State,
+    call: Call,
+    line: Line,
+    room: &[u8],
+    expected: &[u8],
+) -> Result<Finding, Fault> {
     let what = line.word;
-    let class = class::of(what);
-    if class == class::TABLE {
-        let table = case_rooms::table(state, class::which(what), room);
-        return bytes_at(what, line.first, table, expected);
+    let head = state.table(Table::Head, room);
+    let elements = state.table(Table::Elements, room);
+    match what.class() {
+        Class::Table => bytes_at(
+            what,
+            line.first,
+            state.table(Table::of(what), room),
+            expected,
+        ),
+        Class::Kept => kept(state, call, room),
+        Class::Element => against(what, element(head, elements, what, line.first), line.second),
+        Class::Unit => against(what, unit_field(head, what), line.first),
+        _ => against(what, record(head, what, line.first), codes(expected)),
     }
-    if class == class::KEPT {
-        return kept(state, room);
-    }
-    let head = case_rooms::table(state, parts::HEAD, room);
-    if class == class::ELEMENT {
-        let elements = case_rooms::table(state, parts::ELEMENTS, room);
-        return against(what, element(head, elements, what, line.first), line.second);
-    }
-    of_head(line, head, expected)
 }
 
 // The number that a line asks for of what the last call handed back.
-fn handed_back(state: State, what: u8) -> u32 {
-    if state.replayed {
-        return ended(state.ended, what);
+fn handed_back(ending: Ending, what: Word) -> u32 {
+    match ending {
+        Ending::Answered(reply, _) => replied(reply, what),
+        Ending::Replayed(replayed) => ended(replayed, what),
     }
-    replied(state.reply, what)
 }
 
-// Whether a line asks for such a number.
-fn asks_for_one(class: u8) -> bool {
-    if class == class::REPLY {
-        return true;
-    }
-    class == class::REPLAYED
-}
-
-pub fn judge(state: State, line: Line, room: &[u8], expected: &[u8]) -> Finding {
-    if !state.called {
-        return Finding::Fault(fault::NO_CALL);
-    }
+pub fn judge(state: State, line: Line, room: &[u8], expected: &[u8]) -> Result<Finding, Fault> {
+    let call = state.last.ok_or(Fault::NoCall)?;
     let what = line.word;
-    let why = barred(state.replayed, what);
-    if why != 0 {
-        return Finding::Fault(why);
+    if let Some(why) = barred(call.ending, what) {
+        return Err(why);
     }
-    let class = class::of(what);
-    if asks_for_one(class) {
-        return compare(what, handed_back(state, what), line.first);
+    match what.class() {
+        Class::Reply | Class::Replayed => {
+            Ok(compare(what, handed_back(call.ending, what), line.first))
+        }
+        Class::Answer => {
+            let answer = case_rooms::part(room, parts::ANSWER_AT, state.answered());
+            bytes_at(what, line.first, answer, expected)
+        }
+        _ => of_tables(state, call, line, room, expected),
     }
-    if class == class::ANSWER {
-        return bytes_at(
-            what,
-            line.first,
-            case_rooms::part(room, parts::ANSWER_AT, state.answered),
-            expected,
-        );
-    }
-    of_tables(state, line, room, expected)
 }

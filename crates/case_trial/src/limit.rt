@@ -1,61 +1,43 @@
 // The number of a limit that a line went past, for what is told of it.
-use case_rooms::{Finding, State, parts};
-use case_script::{class, fault, word};
+use case_rooms::parts::{self, Table};
+use case_rooms::{Finding, State};
+use case_script::class::Class;
+use case_script::fault::Fault;
+use case_script::word::Word;
 
 // How many bytes there may be.
-fn most(what: u8) -> usize {
-    if what == word::BUFFER {
-        return parts::ANSWER_MOST;
+fn most(what: Word) -> usize {
+    match what {
+        Word::Buffer => parts::ANSWER_MOST,
+        Word::Parameters => parts::PARAMETERS_MOST,
+        Word::Log | Word::LogBytes => parts::LOG_MOST,
+        Word::Transport | Word::Storage | Word::Port | Word::Drive => parts::ELEMENTS_MOST,
+        _ => Table::of(what).part().most,
     }
-    if what == word::PARAMETERS {
-        return parts::PARAMETERS_MOST;
-    }
-    if what == word::LOG {
-        return parts::LOG_MOST;
-    }
-    if what == word::LOG_BYTES {
-        return parts::LOG_MOST;
-    }
-    if class::of(what) == class::RANGE {
-        return parts::ELEMENTS_MOST;
-    }
-    parts::most_of(class::which(what))
 }
 
 // How many bytes the head has where it is short, else the elements.
 fn extent_of_fields(state: State) -> usize {
-    let head = case_rooms::length_of(state, parts::HEAD);
+    let head = state.length(Table::Head);
     if head < layout::HEAD_SIZE {
         return head;
     }
-    case_rooms::length_of(state, parts::ELEMENTS)
+    state.length(Table::Elements)
 }
 
 // How many bytes there are.
-fn extent(state: State, what: u8) -> usize {
-    let class = class::of(what);
-    if class == class::ANSWER {
-        return state.answered;
+fn extent(state: State, what: Word) -> usize {
+    match what.class() {
+        Class::Answer => state.answered(),
+        Class::Table | Class::Label => state.length(Table::of(what)),
+        _ => extent_of_fields(state),
     }
-    if class == class::TABLE {
-        return case_rooms::length_of(state, class::which(what));
-    }
-    if class == class::LABEL {
-        return case_rooms::length_of(state, parts::TAGS);
-    }
-    extent_of_fields(state)
 }
 
-pub fn of(state: State, what: u8, finding: Finding) -> usize {
+pub fn of(state: State, what: Word, finding: Result<Finding, Fault>) -> usize {
     match finding {
-        Finding::Done => 0,
-        Finding::Same => 0,
-        Finding::Differs(_) => 0,
-        Finding::Fault(why) => {
-            if why == fault::OUTSIDE {
-                return extent(state, what);
-            }
-            most(what)
-        }
+        Ok(_) => 0,
+        Err(Fault::Outside) => extent(state, what),
+        Err(_) => most(what),
     }
 }

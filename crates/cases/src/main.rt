@@ -1,49 +1,52 @@
 // Runs the case files that it is named, one after the other, and prints a line for each case.
 #![tactic(auto)]
 
-use case_reading::Got;
-use case_telling::Run;
+use case_telling::Counts;
 use std::env::FillError;
 use std::io;
 use std::io::Write;
 use std::rt::{Env, Files};
 
-fn run_file<W: Write>(files: &impl Files, out: &mut W, run: Run, path: &[u8]) -> io::Result<Run> {
-    let mut file = case_reading::file_room();
-    let got = case_reading::read_whole(files, path, &mut file);
-    let Got::Whole(n) = got else {
-        return case_reading::missed(out, run, path, got);
-    };
-    let last = case_lines::run_lines(out, run, path, case_rooms::part(&file, 0, n))?;
-    case_reading::ended(out, last, path)
+fn run_file<W: Write>(
+    files: &impl Files,
+    out: &mut W,
+    counts: &mut Counts,
+    path: &[u8],
+) -> io::Result<()> {
+    let mut room = case_reading::file_room();
+    match case_reading::read_whole(files, path, &mut room) {
+        Ok(file) => case_lines::run_lines(out, counts, path, file),
+        Err(why) => counts.fail_file(out, path, why),
+    }
 }
 
-// The i-th argument, which is a file's name; `None` behind the last argument.
+// The i-th argument, which is a file's name, behind those that are counted; `None` behind the last argument.
 fn run_argument<W: Write>(
     rt: &(impl Env + Files),
     out: &mut W,
-    run: Run,
+    so_far: Counts,
     i: usize,
-) -> io::Result<Option<Run>> {
+) -> io::Result<Option<Counts>> {
     let mut path = [0u8; 4096];
+    let mut counts = so_far;
     match rt.arg(i, &mut path) {
-        Ok(k) => Ok(Some(run_file(rt, out, run, &path[..k])?)),
-        Err(FillError::TooLong) => Ok(Some(case_reading::unnamed(out, run)?)),
-        Err(FillError::NotPresent) => Ok(None),
+        Ok(k) => run_file(rt, out, &mut counts, &path[..k])?,
+        Err(FillError::TooLong) => case_reading::unnamed(out, &mut counts)?,
+        Err(FillError::NotPresent) => return Ok(None),
     }
+    Ok(Some(counts))
 }
 
 // The arguments from the second on; the first is the program's own name.
 fn main(rt: HostRuntime) -> io::Result<()> {
     let mut out = io::writer(&rt);
-    let mut run = case_telling::start(0, 0);
-    let mut n: usize = 1;
+    let mut told = None;
     for i in 1..usize::MAX {
-        let Some(next) = run_argument(&rt, &mut out, run, i)? else {
+        let so_far = told.unwrap_or_default();
+        let Some(counts) = run_argument(&rt, &mut out, so_far, i)? else {
             break;
         };
-        run = next;
-        n = i + 1;
+        told = Some(counts);
     }
-    case_reading::say_end(&mut out, n, run)
+    case_reading::say_end(&mut out, told)
 }

@@ -1,23 +1,25 @@
-// The sixteen exports of libchanger.a, which a C front end calls by include/smc.h. Each calls the entry of the same name in crates/entry_changer, entry_primary or entry_panel, and
-// states what that states: what it ends with, by the statements of crates/entries, and nothing asked of its caller. A crate is a library or a static library, and the case
-// program stands on those three as libraries, so the exports stand here. What a caller owes beside (valid slices that do not overlap, one call at a time) stands in include/smc.h.
+// The sixteen exports of libchanger.a, which a C front end calls by include/smc.h: C has no structs of slices, so each is lent its tables one by one, and makes one call of `serving` or
+// `replay`. Each states what it ends with, by the statements of crates/entries, and asks nothing of its caller: any bytes, any lengths, any numbers. What a caller owes beside (valid slices
+// that do not overlap, one call at a time) stands in include/smc.h.
 #![tactic(auto)]
 
 ghost use Rattle.std.specs.Prelude.{[]};
 ghost use Rattle.rules.specs.Tables.{lent, others};
 ghost use Rattle.entries.specs.OnlyOne.{CommandEnds, ImportEnds, ExportEnds, ResetEnds, ReplayEnds};
 
+use events::Event;
 use order::Reply;
 use replay::Replayed;
+use tables::Fixed;
 
 #[unsafe(no_mangle)]
-pub extern "C" fn smc_command<'a>(
+pub extern "C" fn smc_command(
     head: &mut [u8],
     elements: &mut [u8],
-    tags: &'a [u8],
-    blank: &'a [u8],
-    generations: &'a [u8],
-    masks: &'a [u8],
+    tags: &[u8],
+    blank: &[u8],
+    generations: &[u8],
+    masks: &[u8],
     search: &mut [u8],
     host: u32,
     block: &[u8],
@@ -26,13 +28,15 @@ pub extern "C" fn smc_command<'a>(
 ) -> Reply
     ensures { CommandEnds (lent head.old elements.old (others tags.now blank.now generations.now masks.now search.old)) host block.now parameters.now answer.old result (lent head.new elements.new (others tags.now blank.now generations.now masks.now search.new)) answer.new }
 {
-    entry_changer::smc_command(
+    serving::command(
         head,
         elements,
-        tags,
-        blank,
-        generations,
-        masks,
+        Fixed {
+            tags,
+            blank,
+            generations,
+            masks,
+        },
         search,
         host,
         block,
@@ -42,13 +46,13 @@ pub extern "C" fn smc_command<'a>(
 }
 
 #[unsafe(no_mangle)]
-pub extern "C" fn smc_move_medium<'a>(
+pub extern "C" fn smc_move_medium(
     head: &mut [u8],
     elements: &mut [u8],
-    tags: &'a [u8],
-    blank: &'a [u8],
-    generations: &'a [u8],
-    masks: &'a [u8],
+    tags: &[u8],
+    blank: &[u8],
+    generations: &[u8],
+    masks: &[u8],
     search: &mut [u8],
     host: u32,
     block: &[u8],
@@ -57,13 +61,15 @@ pub extern "C" fn smc_move_medium<'a>(
 ) -> Reply
     ensures { CommandEnds (lent head.old elements.old (others tags.now blank.now generations.now masks.now search.old)) host block.now parameters.now answer.old result (lent head.new elements.new (others tags.now blank.now generations.now masks.now search.new)) answer.new }
 {
-    entry_changer::smc_move_medium(
+    serving::command(
         head,
         elements,
-        tags,
-        blank,
-        generations,
-        masks,
+        Fixed {
+            tags,
+            blank,
+            generations,
+            masks,
+        },
         search,
         host,
         block,
@@ -73,13 +79,13 @@ pub extern "C" fn smc_move_medium<'a>(
 }
 
 #[unsafe(no_mangle)]
-pub extern "C" fn smc_exchange_medium<'a>(
+pub extern "C" fn smc_exchange_medium(
     head: &mut [u8],
     elements: &mut [u8],
-    tags: &'a [u8],
-    blank: &'a [u8],
-    generations: &'a [u8],
-    masks: &'a [u8],
+    tags: &[u8],
+    blank: &[u8],
+    generations: &[u8],
+    masks: &[u8],
     search: &mut [u8],
     host: u32,
     block: &[u8],
@@ -88,13 +94,15 @@ pub extern "C" fn smc_exchange_medium<'a>(
 ) -> Reply
     ensures { CommandEnds (lent head.old elements.old (others tags.now blank.now generations.now masks.now search.old)) host block.now parameters.now answer.old result (lent head.new elements.new (others tags.now blank.now generations.now masks.now search.new)) answer.new }
 {
-    entry_changer::smc_exchange_medium(
+    serving::command(
         head,
         elements,
-        tags,
-        blank,
-        generations,
-        masks,
+        Fixed {
+            tags,
+            blank,
+            generations,
+            masks,
+        },
         search,
         host,
         block,
@@ -104,13 +112,13 @@ pub extern "C" fn smc_exchange_medium<'a>(
 }
 
 #[unsafe(no_mangle)]
-pub extern "C" fn smc_read_element_status<'a>(
+pub extern "C" fn smc_read_element_status(
     head: &mut [u8],
     elements: &mut [u8],
-    tags: &'a [u8],
-    blank: &'a [u8],
-    generations: &'a [u8],
-    masks: &'a [u8],
+    tags: &[u8],
+    blank: &[u8],
+    generations: &[u8],
+    masks: &[u8],
     search: &mut [u8],
     host: u32,
     block: &[u8],
@@ -119,13 +127,15 @@ pub extern "C" fn smc_read_element_status<'a>(
 ) -> Reply
     ensures { CommandEnds (lent head.old elements.old (others tags.now blank.now generations.now masks.now search.old)) host block.now parameters.now answer.old result (lent head.new elements.new (others tags.now blank.now generations.now masks.now search.new)) answer.new }
 {
-    entry_changer::smc_read_element_status(
+    serving::command(
         head,
         elements,
-        tags,
-        blank,
-        generations,
-        masks,
+        Fixed {
+            tags,
+            blank,
+            generations,
+            masks,
+        },
         search,
         host,
         block,
@@ -135,13 +145,13 @@ pub extern "C" fn smc_read_element_status<'a>(
 }
 
 #[unsafe(no_mangle)]
-pub extern "C" fn smc_send_volume_tag<'a>(
+pub extern "C" fn smc_send_volume_tag(
     head: &mut [u8],
     elements: &mut [u8],
-    tags: &'a [u8],
-    blank: &'a [u8],
-    generations: &'a [u8],
-    masks: &'a [u8],
+    tags: &[u8],
+    blank: &[u8],
+    generations: &[u8],
+    masks: &[u8],
     search: &mut [u8],
     host: u32,
     block: &[u8],
@@ -150,13 +160,15 @@ pub extern "C" fn smc_send_volume_tag<'a>(
 ) -> Reply
     ensures { CommandEnds (lent head.old elements.old (others tags.now blank.now generations.now masks.now search.old)) host block.now parameters.now answer.old result (lent head.new elements.new (others tags.now blank.now generations.now masks.now search.new)) answer.new }
 {
-    entry_changer::smc_send_volume_tag(
+    serving::command(
         head,
         elements,
-        tags,
-        blank,
-        generations,
-        masks,
+        Fixed {
+            tags,
+            blank,
+            generations,
+            masks,
+        },
         search,
         host,
         block,
@@ -166,13 +178,13 @@ pub extern "C" fn smc_send_volume_tag<'a>(
 }
 
 #[unsafe(no_mangle)]
-pub extern "C" fn smc_request_volume_element_address<'a>(
+pub extern "C" fn smc_request_volume_element_address(
     head: &mut [u8],
     elements: &mut [u8],
-    tags: &'a [u8],
-    blank: &'a [u8],
-    generations: &'a [u8],
-    masks: &'a [u8],
+    tags: &[u8],
+    blank: &[u8],
+    generations: &[u8],
+    masks: &[u8],
     search: &mut [u8],
     host: u32,
     block: &[u8],
@@ -181,13 +193,15 @@ pub extern "C" fn smc_request_volume_element_address<'a>(
 ) -> Reply
     ensures { CommandEnds (lent head.old elements.old (others tags.now blank.now generations.now masks.now search.old)) host block.now parameters.now answer.old result (lent head.new elements.new (others tags.now blank.now generations.now masks.now search.new)) answer.new }
 {
-    entry_changer::smc_request_volume_element_address(
+    serving::command(
         head,
         elements,
-        tags,
-        blank,
-        generations,
-        masks,
+        Fixed {
+            tags,
+            blank,
+            generations,
+            masks,
+        },
         search,
         host,
         block,
@@ -197,13 +211,13 @@ pub extern "C" fn smc_request_volume_element_address<'a>(
 }
 
 #[unsafe(no_mangle)]
-pub extern "C" fn smc_test_unit_ready<'a>(
+pub extern "C" fn smc_test_unit_ready(
     head: &mut [u8],
     elements: &mut [u8],
-    tags: &'a [u8],
-    blank: &'a [u8],
-    generations: &'a [u8],
-    masks: &'a [u8],
+    tags: &[u8],
+    blank: &[u8],
+    generations: &[u8],
+    masks: &[u8],
     search: &mut [u8],
     host: u32,
     block: &[u8],
@@ -212,13 +226,15 @@ pub extern "C" fn smc_test_unit_ready<'a>(
 ) -> Reply
     ensures { CommandEnds (lent head.old elements.old (others tags.now blank.now generations.now masks.now search.old)) host block.now parameters.now answer.old result (lent head.new elements.new (others tags.now blank.now generations.now masks.now search.new)) answer.new }
 {
-    entry_primary::smc_test_unit_ready(
+    serving::command(
         head,
         elements,
-        tags,
-        blank,
-        generations,
-        masks,
+        Fixed {
+            tags,
+            blank,
+            generations,
+            masks,
+        },
         search,
         host,
         block,
@@ -228,13 +244,13 @@ pub extern "C" fn smc_test_unit_ready<'a>(
 }
 
 #[unsafe(no_mangle)]
-pub extern "C" fn smc_request_sense<'a>(
+pub extern "C" fn smc_request_sense(
     head: &mut [u8],
     elements: &mut [u8],
-    tags: &'a [u8],
-    blank: &'a [u8],
-    generations: &'a [u8],
-    masks: &'a [u8],
+    tags: &[u8],
+    blank: &[u8],
+    generations: &[u8],
+    masks: &[u8],
     search: &mut [u8],
     host: u32,
     block: &[u8],
@@ -243,13 +259,15 @@ pub extern "C" fn smc_request_sense<'a>(
 ) -> Reply
     ensures { CommandEnds (lent head.old elements.old (others tags.now blank.now generations.now masks.now search.old)) host block.now parameters.now answer.old result (lent head.new elements.new (others tags.now blank.now generations.now masks.now search.new)) answer.new }
 {
-    entry_primary::smc_request_sense(
+    serving::command(
         head,
         elements,
-        tags,
-        blank,
-        generations,
-        masks,
+        Fixed {
+            tags,
+            blank,
+            generations,
+            masks,
+        },
         search,
         host,
         block,
@@ -259,13 +277,13 @@ pub extern "C" fn smc_request_sense<'a>(
 }
 
 #[unsafe(no_mangle)]
-pub extern "C" fn smc_reserve<'a>(
+pub extern "C" fn smc_reserve(
     head: &mut [u8],
     elements: &mut [u8],
-    tags: &'a [u8],
-    blank: &'a [u8],
-    generations: &'a [u8],
-    masks: &'a [u8],
+    tags: &[u8],
+    blank: &[u8],
+    generations: &[u8],
+    masks: &[u8],
     search: &mut [u8],
     host: u32,
     block: &[u8],
@@ -274,13 +292,15 @@ pub extern "C" fn smc_reserve<'a>(
 ) -> Reply
     ensures { CommandEnds (lent head.old elements.old (others tags.now blank.now generations.now masks.now search.old)) host block.now parameters.now answer.old result (lent head.new elements.new (others tags.now blank.now generations.now masks.now search.new)) answer.new }
 {
-    entry_primary::smc_reserve(
+    serving::command(
         head,
         elements,
-        tags,
-        blank,
-        generations,
-        masks,
+        Fixed {
+            tags,
+            blank,
+            generations,
+            masks,
+        },
         search,
         host,
         block,
@@ -290,13 +310,13 @@ pub extern "C" fn smc_reserve<'a>(
 }
 
 #[unsafe(no_mangle)]
-pub extern "C" fn smc_release<'a>(
+pub extern "C" fn smc_release(
     head: &mut [u8],
     elements: &mut [u8],
-    tags: &'a [u8],
-    blank: &'a [u8],
-    generations: &'a [u8],
-    masks: &'a [u8],
+    tags: &[u8],
+    blank: &[u8],
+    generations: &[u8],
+    masks: &[u8],
     search: &mut [u8],
     host: u32,
     block: &[u8],
@@ -305,13 +325,15 @@ pub extern "C" fn smc_release<'a>(
 ) -> Reply
     ensures { CommandEnds (lent head.old elements.old (others tags.now blank.now generations.now masks.now search.old)) host block.now parameters.now answer.old result (lent head.new elements.new (others tags.now blank.now generations.now masks.now search.new)) answer.new }
 {
-    entry_primary::smc_release(
+    serving::command(
         head,
         elements,
-        tags,
-        blank,
-        generations,
-        masks,
+        Fixed {
+            tags,
+            blank,
+            generations,
+            masks,
+        },
         search,
         host,
         block,
@@ -321,13 +343,13 @@ pub extern "C" fn smc_release<'a>(
 }
 
 #[unsafe(no_mangle)]
-pub extern "C" fn smc_prevent_allow<'a>(
+pub extern "C" fn smc_prevent_allow(
     head: &mut [u8],
     elements: &mut [u8],
-    tags: &'a [u8],
-    blank: &'a [u8],
-    generations: &'a [u8],
-    masks: &'a [u8],
+    tags: &[u8],
+    blank: &[u8],
+    generations: &[u8],
+    masks: &[u8],
     search: &mut [u8],
     host: u32,
     block: &[u8],
@@ -336,13 +358,15 @@ pub extern "C" fn smc_prevent_allow<'a>(
 ) -> Reply
     ensures { CommandEnds (lent head.old elements.old (others tags.now blank.now generations.now masks.now search.old)) host block.now parameters.now answer.old result (lent head.new elements.new (others tags.now blank.now generations.now masks.now search.new)) answer.new }
 {
-    entry_primary::smc_prevent_allow(
+    serving::command(
         head,
         elements,
-        tags,
-        blank,
-        generations,
-        masks,
+        Fixed {
+            tags,
+            blank,
+            generations,
+            masks,
+        },
         search,
         host,
         block,
@@ -352,13 +376,13 @@ pub extern "C" fn smc_prevent_allow<'a>(
 }
 
 #[unsafe(no_mangle)]
-pub extern "C" fn smc_mode_sense<'a>(
+pub extern "C" fn smc_mode_sense(
     head: &mut [u8],
     elements: &mut [u8],
-    tags: &'a [u8],
-    blank: &'a [u8],
-    generations: &'a [u8],
-    masks: &'a [u8],
+    tags: &[u8],
+    blank: &[u8],
+    generations: &[u8],
+    masks: &[u8],
     search: &mut [u8],
     host: u32,
     block: &[u8],
@@ -367,13 +391,15 @@ pub extern "C" fn smc_mode_sense<'a>(
 ) -> Reply
     ensures { CommandEnds (lent head.old elements.old (others tags.now blank.now generations.now masks.now search.old)) host block.now parameters.now answer.old result (lent head.new elements.new (others tags.now blank.now generations.now masks.now search.new)) answer.new }
 {
-    entry_primary::smc_mode_sense(
+    serving::command(
         head,
         elements,
-        tags,
-        blank,
-        generations,
-        masks,
+        Fixed {
+            tags,
+            blank,
+            generations,
+            masks,
+        },
         search,
         host,
         block,
@@ -383,80 +409,94 @@ pub extern "C" fn smc_mode_sense<'a>(
 }
 
 #[unsafe(no_mangle)]
-pub extern "C" fn smc_import<'a>(
+pub extern "C" fn smc_import(
     head: &mut [u8],
     elements: &mut [u8],
-    tags: &'a [u8],
-    blank: &'a [u8],
-    generations: &'a [u8],
-    masks: &'a [u8],
+    tags: &[u8],
+    blank: &[u8],
+    generations: &[u8],
+    masks: &[u8],
     search: &mut [u8],
     address: u32,
     volume: u32,
 ) -> Reply
     ensures { ImportEnds (lent head.old elements.old (others tags.now blank.now generations.now masks.now search.old)) address volume result (lent head.new elements.new (others tags.now blank.now generations.now masks.now search.new)) [] }
 {
-    entry_panel::smc_import(
+    serving::event(
         head,
         elements,
-        tags,
-        blank,
-        generations,
-        masks,
+        Fixed {
+            tags,
+            blank,
+            generations,
+            masks,
+        },
         search,
-        address,
-        volume,
+        Event::Import { address, volume },
     )
 }
 
 #[unsafe(no_mangle)]
-pub extern "C" fn smc_export<'a>(
+pub extern "C" fn smc_export(
     head: &mut [u8],
     elements: &mut [u8],
-    tags: &'a [u8],
-    blank: &'a [u8],
-    generations: &'a [u8],
-    masks: &'a [u8],
+    tags: &[u8],
+    blank: &[u8],
+    generations: &[u8],
+    masks: &[u8],
     search: &mut [u8],
     address: u32,
 ) -> Reply
     ensures { ExportEnds (lent head.old elements.old (others tags.now blank.now generations.now masks.now search.old)) address result (lent head.new elements.new (others tags.now blank.now generations.now masks.now search.new)) [] }
 {
-    entry_panel::smc_export(
+    serving::event(
         head,
         elements,
-        tags,
-        blank,
-        generations,
-        masks,
+        Fixed {
+            tags,
+            blank,
+            generations,
+            masks,
+        },
         search,
-        address,
+        Event::Export { address },
     )
 }
 
 #[unsafe(no_mangle)]
-pub extern "C" fn smc_reset<'a>(
+pub extern "C" fn smc_reset(
     head: &mut [u8],
     elements: &mut [u8],
-    tags: &'a [u8],
-    blank: &'a [u8],
-    generations: &'a [u8],
-    masks: &'a [u8],
+    tags: &[u8],
+    blank: &[u8],
+    generations: &[u8],
+    masks: &[u8],
     search: &mut [u8],
 ) -> Reply
     ensures { ResetEnds (lent head.old elements.old (others tags.now blank.now generations.now masks.now search.old)) result (lent head.new elements.new (others tags.now blank.now generations.now masks.now search.new)) [] }
 {
-    entry_panel::smc_reset(head, elements, tags, blank, generations, masks, search)
+    serving::event(
+        head,
+        elements,
+        Fixed {
+            tags,
+            blank,
+            generations,
+            masks,
+        },
+        search,
+        Event::Reset,
+    )
 }
 
 #[unsafe(no_mangle)]
-pub extern "C" fn smc_replay<'a>(
+pub extern "C" fn smc_replay(
     head: &mut [u8],
     elements: &mut [u8],
-    tags: &'a [u8],
-    blank: &'a [u8],
-    generations: &'a [u8],
-    masks: &'a [u8],
+    tags: &[u8],
+    blank: &[u8],
+    generations: &[u8],
+    masks: &[u8],
     search: &mut [u8],
     log: &[u8],
     expected: u32,
@@ -464,13 +504,15 @@ pub extern "C" fn smc_replay<'a>(
 ) -> Replayed
     ensures { ReplayEnds (lent head.old elements.old (others tags.now blank.now generations.now masks.now search.old)) log.now expected budget result (lent head.new elements.new (others tags.now blank.now generations.now masks.now search.new)) }
 {
-    entry_panel::smc_replay(
+    replay::replay(
         head,
         elements,
-        tags,
-        blank,
-        generations,
-        masks,
+        Fixed {
+            tags,
+            blank,
+            generations,
+            masks,
+        },
         search,
         log,
         expected,

@@ -1,1 +1,2 @@
 pub mod Resets
+pub mod Events

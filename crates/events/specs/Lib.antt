@@ -1,1 +1,2 @@
 pub mod Restarted
+pub mod Occurring

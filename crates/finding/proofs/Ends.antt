@@ -6,7 +6,7 @@ use mathlib.Core.Logic.{◌≢◌}
 use mathlib.Core.List.{List, [], ◌∷◌}
 use lib.ListN.{length, replicate, length-replicate}
 use Rattle.rules.specs.Bytes.{byte, word, three, put}
-use Rattle.rules.specs.Tables.{Tables, lent, searching, most_elements, element_at, search_size, next_at, next_address, action, sensed, Change, Sense, GoOn, in_head, in_search, change, changes}
+use Rattle.rules.specs.Tables.{Tables, lent, searching, most_elements, element_at, next_at, next_address, action, sensed, Change, Sense, GoOn, in_head, in_search, change, changes}
 use Rattle.rules.specs.Roster.{Slot, Range as Meant, spread, roster}
 use Rattle.rules.specs.Ranges.{total}
 use Rattle.rules.specs.Order.{outcome, fits, after}
@@ -31,10 +31,10 @@ unmarked zero q = refl
 unmarked (suc n) zero = refl
 unmarked (suc n) (suc q) = unmarked n q
 
-pub fresh : (rs : List Meant) (elements tags search : List ℕ) → element_at (total rs) ≤ length elements → AllLabelled elements tags → length search ≡ search_size
-    → total rs ≤ most_elements → Searchable rs elements tags search (replicate most_elements 0)
-fresh rs elements tags search s l w f =
-    record { stands = s; labels = l; whole = w; enough = omega (arith, length-replicate {A = ℕ} most_elements 0); unmarked = unmarked most_elements }
+pub fresh : (rs : List Meant) (elements tags : List ℕ) → element_at (total rs) ≤ length elements → AllLabelled elements tags → total rs ≤ most_elements
+    → Searchable rs elements tags (replicate most_elements 0)
+fresh rs elements tags s l f =
+    record { stands = s; labels = l; enough = omega (arith, length-replicate {A = ℕ} most_elements 0); unmarked = unmarked most_elements }
 
 -- ---- what is marked is what is found
 

@@ -1,28 +1,23 @@
 -- What a request stands on; sound tables have it. Assumes nothing.
-use Rattle.std.specs.Prelude.{ℕ, ◌≤◌, ◌≡◌, List, length}
-use Rattle.rules.specs.Tables.{Tables, head_size, hosts, most_elements, element_at, search_size, behind_last, next_address}
+use Rattle.std.specs.Prelude.{ℕ, ◌≤◌, List, length}
+use Rattle.rules.specs.Tables.{Tables, most_elements, element_at, behind_last, next_address}
 use Rattle.rules.specs.Ranges.{Each, total}
 use Rattle.tables.specs.declared.Range.{Range}
 use Rattle.tables.specs.Ranges.{meant, Runs}
 use Rattle.listing.specs.Counting.{Inside, Readable}
 use Rattle.search.specs.Marks.{AllLabelled}
 
--- tables that can be read, a search of full length that is no further on than an address can be, and no more elements than there are marks
-pub record Findable (runs : List Range) (head : List ℕ) (t : Tables) (search : List ℕ) (host : ℕ) (block : List ℕ) : Type 0 where
-  pub reads : Readable runs head t host block
-  pub whole : length search ≡ search_size
+-- tables that can be read, a search that is no further on than an address can be, and no more elements than there are marks
+pub record Findable (runs : List Range) (head : List ℕ) (t : Tables) (search : List ℕ) : Type 0 where
+  pub reads : Readable runs head t
   pub near : next_address search ≤ behind_last
   pub few : total (meant runs) ≤ most_elements
 
 -- the same, where no descriptor is written
-pub record Countable (runs : List Range) (head elements tags search : List ℕ) (host : ℕ) (block : List ℕ) : Type 0 where
-  pub long : head_size ≤ length head
+pub record Countable (runs : List Range) (head elements tags search : List ℕ) : Type 0 where
   pub runs-are : Runs runs head
   pub inside : Each Inside (meant runs)
   pub stands : element_at (total (meant runs)) ≤ length elements
   pub labelled : AllLabelled elements tags
-  pub known : host ≤ hosts
-  pub twelve : length block ≡ 12
-  pub whole : length search ≡ search_size
   pub near : next_address search ≤ behind_last
   pub few : total (meant runs) ≤ most_elements

@@ -10,20 +10,14 @@ ghost use Rattle.rules.specs.Fitting.{accepts};
 pub fn byte_or_none(xs: &[u8], i: usize) -> u8
     ensures { result ≡ byte xs.now i }
 {
-    if i >= xs.len() {
-        return 0;
-    }
-    xs[i]
+    xs.get(i).copied().unwrap_or(0)
 }
 
 // "a mask (bit g-1) of those it takes"
 pub fn takes(mask: u8, generation: u8) -> bool
     ensures { result ≡ accepts mask generation }
 {
-    if generation > layout::MOST_GENERATIONS {
-        return false;
-    }
-    (mask >> wire::less(generation as usize, 1)) % 2 == 1
+    generation <= layout::MOST_GENERATIONS && (mask >> generation.saturating_sub(1)) % 2 == 1
 }
 
 // The drive whose mask is the `drive`-th, from 0, takes a volume, the first being volume 1.
@@ -31,6 +25,6 @@ pub fn drive_takes(generations: &[u8], masks: &[u8], drive: usize, volume: u16) 
     ensures { result ≡ accepts (byte masks.now drive) (byte generations.now (volume - 1)) }
 {
     let mask = byte_or_none(masks, drive);
-    let generation = byte_or_none(generations, wire::less(volume as usize, 1));
+    let generation = byte_or_none(generations, (volume as usize).saturating_sub(1));
     takes(mask, generation)
 }

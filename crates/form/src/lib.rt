@@ -2,10 +2,10 @@
 #![tactic(auto)]
 
 ghost use Rattle.std.specs.Prelude.{◌≡◌, List, ℕ, ◌+◌, ◌≤◌, length};
-ghost use Rattle.rules.specs.Tables.{head_size};
-ghost use Rattle.rules.specs.Operation.{Reserve, ModeSense, SendVolumeTag};
-ghost use Rattle.rules.specs.Form.{stray as strayIn, type_fault, action_fault, own_fault, lower as lowerOf, fault as faultOf};
+ghost use Rattle.rules.specs.Operation.{Reserve, ModeSense};
+ghost use Rattle.rules.specs.Form.{unused, stray as strayIn, type_fault, action_fault, own_fault, lower as lowerOf, fault as faultOf};
 ghost use Rattle.operation.specs.Meaning.{meaning, Fitting};
+ghost use Rattle.form.specs.Faults.{byte_at};
 
 use operation::Operation;
 
@@ -43,122 +43,135 @@ const SEND_VOLUME_TAG_UNUSED: [u8; 11] = [0x10, 0, 0, 0xFF, 0xE0, 0xFF, 0xFF, 0,
 // byte 1 bit 4 tags, bits 0-3 type, 2-3 start, 4-5 most elements, 7-8 allocation
 const REQUEST_ADDRESS_UNUSED: [u8; 11] = [0, 0, 0, 0, 0, 0xFF, 0, 0, 0xFF, 0xFF, 0xFF];
 
-// The lowest byte that has a bit without a use; 0 where none has.
-fn stray(block: &[u8], masks: &[u8]) -> usize
-    requires { length masks.now + 1 ≤ length block.now }
-    ensures { result ≡ strayIn masks.now block.now }
+// The bits without a use of an operation's block.
+#[tactic(auto, unfolding(rules::specs::Form::unused, operation::specs::Meaning::meaning))]
+fn unused(op: Operation) -> &'static [u8]
+    ensures { result.now ≡ unused (meaning op) }
 {
-    let n = masks.len();
-    let mut i: usize = 0;
-    while i < n {
-        if block[i + 1] & masks[i] != 0 {
-            return i + 1;
-        }
-        i += 1;
+    match op {
+        Operation::TestUnitReady => &TEST_UNIT_READY_UNUSED,
+        Operation::RequestSense => &REQUEST_SENSE_UNUSED,
+        Operation::Reserve => &RESERVE_UNUSED,
+        Operation::Release => &RELEASE_UNUSED,
+        Operation::PreventAllow => &PREVENT_ALLOW_UNUSED,
+        Operation::MoveMedium => &MOVE_MEDIUM_UNUSED,
+        Operation::ExchangeMedium => &EXCHANGE_MEDIUM_UNUSED,
+        Operation::ReadElementStatus => &READ_ELEMENT_STATUS_UNUSED,
+        Operation::ModeSense => &MODE_SENSE_UNUSED,
+        Operation::SendVolumeTag => &SEND_VOLUME_TAG_UNUSED,
+        Operation::RequestVolumeElementAddress => &REQUEST_ADDRESS_UNUSED,
+        Operation::Unknown => &[],
     }
-    0
+}
+
+// The lowest byte that has a bit without a use.
+fn stray(block: &[u8], masks: &[u8]) -> Option<usize>
+    requires { length masks.now + 1 ≤ length block.now }
+    ensures { result ≡ byte_at (strayIn masks.now block.now) }
+{
+    for (i, mask) in masks.iter().enumerate() {
+        if block[i + 1] & mask != 0 {
+            return Some(i + 1);
+        }
+    }
+    None
 }
 
 // RESERVE with Element 0: "list length must be 0 (else 5/24/00)"
-fn list_fault(block: &[u8], list: &[u8]) -> usize
-    requires { length block.now ≡ 6 }
-    ensures { (head : List ℕ) → result ≡ own_fault Reserve head block.now list.now }
+fn list_fault(block: &[u8; 6], list: &[u8]) -> Option<usize>
+    ensures { (head : List ℕ) → result ≡ byte_at (own_fault Reserve head block.now list.now) }
 {
     if block[1] % 2 == 0 {
         if list.len() != 0 {
-            return 3;
+            return Some(3);
         }
-        return 0;
     }
-    0
+    None
 }
 
 // "a type code above 4"
-fn type_fault(block: &[u8]) -> usize
-    requires { length block.now ≡ 12 }
-    ensures { result ≡ type_fault block.now }
+#[tactic(auto, using(rules::proofs::Ladder::ladder), unfolding(rules::specs::Form::type_fault, rules::specs::Listing::type_code, rules::specs::Bytes::byte))]
+fn type_fault(block: &[u8; 12]) -> Option<usize>
+    ensures { result ≡ byte_at (type_fault block.now) }
 {
     if layout::DRIVE < block[1] % 16 {
-        return 1;
+        return Some(1);
     }
-    0
+    None
 }
 
 // "actions 1h and 5h (primary tags), others 5/24/00"
-fn action_fault(block: &[u8]) -> usize
-    requires { length block.now ≡ 12 }
-    ensures { result ≡ action_fault block.now }
+#[tactic(auto, using(rules::proofs::Ladder::ladder), unfolding(rules::specs::Form::action_fault, rules::specs::Search::known_action, rules::specs::Search::action_code, rules::specs::Bytes::byte))]
+fn action_fault(block: &[u8; 12]) -> Option<usize>
+    ensures { result ≡ byte_at (action_fault block.now) }
 {
-    let action = block[5] % 32;
-    if action == layout::IN_RANGE {
-        return 0;
+    match block[5] % 32 {
+        layout::IN_RANGE | layout::ANY_SEQUENCE => None,
+        _ => Some(5),
     }
-    if action == layout::ANY_SEQUENCE {
-        return 0;
-    }
-    5
-}
-
-// SEND VOLUME TAG may be at fault in both.
-fn tag_fault(block: &[u8]) -> usize
-    requires { length block.now ≡ 12 }
-    ensures { (head list : List ℕ) → result ≡ own_fault SendVolumeTag head block.now list }
-{
-    lower(type_fault(block), action_fault(block))
 }
 
 // "other page controls and pages", and too long an answer
-fn page_fault(head: &[u8], block: &[u8]) -> usize
-    requires head_size_in_bounds { head_size ≤ length head.now }
-    requires block_len { length block.now ≡ 6 }
-    ensures { (list : List ℕ) → result ≡ own_fault ModeSense head.now block.now list }
+fn page_fault(head: &[u8; layout::HEAD_SIZE], block: &[u8; 6]) -> Option<usize>
+    ensures { (list : List ℕ) → result ≡ byte_at (own_fault ModeSense head.now block.now list) }
 {
     if mode::no_answer(head, block) {
-        return 2;
+        return Some(2);
     }
-    0
+    None
 }
 
-// The lower of two bytes at fault, 0 being none.
-fn lower(i: usize, j: usize) -> usize
-    ensures { result ≡ lowerOf i j }
+// The lower of two bytes at fault.
+fn lower(i: Option<usize>, j: Option<usize>) -> Option<usize>
+    ensures { (m n : ℕ) → i ≡ byte_at m → j ≡ byte_at n → result ≡ byte_at (lowerOf m n) }
 {
-    if i == 0 {
-        return j;
+    match (i, j) {
+        (None, _) => j,
+        (_, None) => i,
+        (Some(i), Some(j)) => Some(i.min(j)),
     }
-    if j == 0 {
-        return i;
-    }
-    if i <= j {
-        return i;
-    }
-    j
 }
 
-// Where step 4 finds a fault: the lowest byte; 0 where it finds none.
-pub fn fault(op: Operation, head: &[u8], block: &[u8], list: &[u8]) -> usize
-    requires head_size_in_bounds { head_size ≤ length head.now }
-    requires fitting { Fitting op block.now }
-    ensures { result ≡ faultOf (meaning op) head.now block.now list.now }
+// A fault of the command's own; SEND VOLUME TAG may be at fault in both.
+#[tactic(auto, unfolding(rules::specs::Form::own_fault, operation::specs::Meaning::meaning, rules::specs::Choice::when))]
+fn own_fault(
+    op: Operation,
+    head: &[u8; layout::HEAD_SIZE],
+    block: &[u8],
+    list: &[u8],
+) -> Option<usize>
+    requires { Fitting op block.now }
+    ensures { result ≡ byte_at (own_fault (meaning op) head.now block.now list.now) }
 {
     match op {
-        Operation::TestUnitReady => stray(block, &TEST_UNIT_READY_UNUSED),
-        Operation::RequestSense => stray(block, &REQUEST_SENSE_UNUSED),
-        Operation::Reserve => lower(stray(block, &RESERVE_UNUSED), list_fault(block, list)),
-        Operation::Release => stray(block, &RELEASE_UNUSED),
-        Operation::PreventAllow => stray(block, &PREVENT_ALLOW_UNUSED),
-        Operation::MoveMedium => stray(block, &MOVE_MEDIUM_UNUSED),
-        Operation::ExchangeMedium => stray(block, &EXCHANGE_MEDIUM_UNUSED),
-        Operation::ReadElementStatus => lower(
-            stray(block, &READ_ELEMENT_STATUS_UNUSED),
-            type_fault(block),
-        ),
-        Operation::ModeSense => lower(stray(block, &MODE_SENSE_UNUSED), page_fault(head, block)),
-        Operation::SendVolumeTag => lower(stray(block, &SEND_VOLUME_TAG_UNUSED), tag_fault(block)),
-        Operation::RequestVolumeElementAddress => lower(
-            stray(block, &REQUEST_ADDRESS_UNUSED),
-            type_fault(block),
-        ),
-        Operation::Unknown => 0,
+        Operation::Reserve => list_fault(wire::whole::<6>(block), list),
+        Operation::ReadElementStatus | Operation::RequestVolumeElementAddress => {
+            type_fault(wire::whole::<12>(block))
+        }
+        Operation::ModeSense => page_fault(head, wire::whole::<6>(block)),
+        Operation::SendVolumeTag => {
+            let whole = wire::whole::<12>(block);
+            lower(type_fault(whole), action_fault(whole))
+        }
+        Operation::TestUnitReady
+        | Operation::RequestSense
+        | Operation::Release
+        | Operation::PreventAllow
+        | Operation::MoveMedium
+        | Operation::ExchangeMedium
+        | Operation::Unknown => None,
     }
+}
+
+// Where step 4 finds a fault: the lowest byte. That the block has the length of its operation (`Fitting`) is a fact of both together.
+pub fn fault(
+    op: Operation,
+    head: &[u8; layout::HEAD_SIZE],
+    block: &[u8],
+    list: &[u8],
+) -> Option<usize>
+    requires { Fitting op block.now }
+    ensures { result ≡ byte_at (faultOf (meaning op) head.now block.now list.now) }
+{
+    lower(stray(block, unused(op)), own_fault(op, head, block, list))
 }

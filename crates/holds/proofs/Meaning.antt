@@ -3,6 +3,7 @@ use Prim.Native.Nat.{ℕ, zero, suc, ◌%◌}
 use mathlib.Core.Path.{◌≡◌, refl}
 use mathlib.Core.List.{List, [], ◌∷◌}
 use mathlib.Core.Bool.{Bool, true, false}
+use Rattle.std.specs.Prelude.{Ok, Err}
 use Rattle.rules.specs.Choice.{when, any_of, differ}
 use Rattle.rules.specs.Bytes.{byte}
 use Rattle.rules.specs.Tables.{Tables, HoldUnit}
@@ -14,24 +15,22 @@ use Rattle.tables.specs.declared.Range.{Range}
 use Rattle.tables.specs.Ranges.{laid}
 use Rattle.tables.proofs.Roster.{runs-laid}
 use Rattle.order.specs.declared.Cause.TheVariants.{ListField as Fields}
-use Rattle.order.specs.Ending.{reason}
+use Rattle.order.specs.Ending.{reason, verdict}
 use Rattle.order.specs.Holders.{any_other}
-use Rattle.lists.specs.declared.Named.TheVariants.{Wrong, Elements as Names}
 use Rattle.lists.specs.Named.{span_at, wrong, looked_up_then, judged_at}
-use Rattle.holds.specs.declared.Ruling.{Ruling}
-use Rattle.holds.specs.Judged.{on_named, judged_from, elements_by, meaning, LaidOut, Reservable}
+use Rattle.holds.specs.Judged.{Ruling, on_named, judged_from, elements_by, meaning, LaidOut, Reservable}
 
 -- ---- RESERVE of elements
 
 module _ (ss : List Slot) (h i : ℕ) (list : List ℕ) (rest : Ruling) where
   judged-means : (n k : ℕ) → meaning ss h i list (judged_from ss list n k rest) ≡ faults_from ss h list n k (meaning ss h i list rest)
-  unfolding judged_from judged_at looked_up_then faults_from wrong_address on_named meaning reason any_of when
+  unfolding judged_from judged_at looked_up_then faults_from wrong_address on_named meaning verdict reason any_of when
   judged-means zero k = refl
   judged-means (suc n) k = go (differ (reserved_bytes list k) 0) (unknown ss list k) (too_many ss list k) (named_before ss list k) (judged-means n (suc k))
     where
       go : (a b c d : Bool) → meaning ss h i list (judged_from ss list n (suc k) rest) ≡ faults_from ss h list n (suc k) (meaning ss h i list rest)
           → meaning ss h i list
-          (on_named (when a (Wrong Fields) (when b wrong (when c wrong (when d wrong (Names (span_at ss list k))))))
+          (on_named (when a (Err Fields) (when b wrong (when c wrong (when d wrong (Ok (span_at ss list k))))))
           (judged_from ss list n (suc k) rest))
           ≡ when a (refused h ListField) (when (any_of (b ∷ c ∷ d ∷ [])) (refused h WrongAddress) (faults_from ss h list n (suc k) (meaning ss h i list rest)))
       go true b c d ih = refl
@@ -42,7 +41,7 @@ module _ (ss : List Slot) (h i : ℕ) (list : List ℕ) (rest : Ruling) where
 
 elements-mean : (t : Tables) (h i : ℕ) (list : List ℕ)
     → meaning (roster t.head) h i list (elements_by (roster t.head) t.elements h i list) ≡ reserve_elements t h i list
-unfolding elements_by meaning reserve_elements reason
+unfolding elements_by meaning verdict reserve_elements reason
 elements-mean t h i list = simp (when-of (meaning (roster t.head) h i list), judged-means)
 
 -- ---- RESERVE of the unit, after the search r
@@ -58,7 +57,7 @@ module _ (t : Tables) (h : ℕ) (r : Bool) (is : r ≡ any_other t.elements h) w
 
 -- ---- from what RESERVE asks for
 
-module _ (runs : List Range) (head elements : List ℕ) (h : ℕ) (block : List ℕ) (asked : Reservable runs head elements h block) where
+module _ (runs : List Range) (head elements : List ℕ) (asked : Reservable runs head elements) where
   pub same-roster : laid runs ≡ roster head
   same-roster = runs-laid runs head asked.runs-are
 

@@ -1,71 +1,58 @@
 // RESERVE, RELEASE and PREVENT ALLOW from step 5 on: judged by reading only, then carried out.
 #![tactic(auto)]
 
-ghost use Rattle.std.specs.Prelude.{◌≡◌, List, ℕ, ◌+◌, ◌<◌, ◌≤◌, length};
+ghost use Rattle.std.specs.Prelude.{◌≡◌, List, ℕ, ◌+◌, ◌*◌, ◌<◌, ◌≤◌, length, OnOk};
 ghost use Rattle.rules.specs.Choice.{any_from};
-ghost use Rattle.rules.specs.Tables.{head_size, element_size, element_at, most_elements, places, hosts, lent, Rest};
-ghost use Rattle.rules.specs.Roster.{Slot};
+ghost use Rattle.rules.specs.Tables.{element_size, element_at, most_elements, places, lent, Rest};
 ghost use Rattle.rules.specs.Order.{outcome, good};
-ghost use Rattle.rules.specs.Holds.{taken, reserve_unit, reserve, release_unit, release, new_mask, prevent};
+ghost use Rattle.rules.specs.Holds.{descriptors, taken, reserve_unit, reserve, release_unit, release, new_mask, prevent};
 ghost use Rattle.order.specs.Ending.{ended};
 ghost use Rattle.tables.specs.Ranges.{laid};
 ghost use Rattle.lists.specs.Named.{Marks};
-ghost use Rattle.holds.specs.Judged.{taken_in, elements_by, meaning, settled_at, settled, Grantable, LaidOut, Bounded, Carriable, Reservable};
+ghost use Rattle.holds.specs.Judged.{taken_in, taken_of, elements_by, meaning, settled_at, settled, LaidOut, Bounded, Reservable};
 
 use frees::Whose;
-use lists::Named;
-use order::{Cause, Reply};
-use tables::Range;
+use lists::Span;
+use order::{Cause, Refusal, Reply};
+use tables::{Host, Range};
 
-// What a RESERVE of elements comes to: refused for a cause, a conflict, or that those named are held.
+// Under whom elements are held: a host, by its number as in the table, and an id of its own.
 #[derive(Clone, Copy)]
-pub enum Ruling {
-    Refused(Cause),
-    Conflict,
-    Elements,
+struct Claim {
+    host: u8,
+    id: u8,
 }
 
 // ---- what stands in the element table
 
 // "held by another host, or by this host under another id"
-fn taken_at(elements: &[u8], host: u8, id: u8, place: usize) -> bool
+#[tactic(auto, unfolding(rules::specs::Holds::taken, rules::specs::Order::other, rules::specs::Choice::any_of, rules::specs::Choice::all_of, rules::specs::Choice::when, rules::specs::Choice::differ))]
+fn taken_at(elements: &[u8], claim: Claim, place: usize) -> bool
     requires { element_at place + element_size ≤ length elements.now }
-    ensures { result ≡ taken elements.now host id place }
+    ensures { result ≡ taken elements.now claim.host claim.id place }
 {
     let owner = tables::element::holder(elements, place);
-    if owner == host {
-        return tables::element::id(elements, place) != id;
+    if owner == claim.host {
+        return tables::element::id(elements, place) != claim.id;
     }
     owner != 0
 }
 
-// Outer loop over descriptors, inner over the elements named: the label leaves both at the first that is taken.
-fn conflicts(
-    elements: &[u8],
-    host: u8,
-    id: u8,
-    n: usize,
-    firsts: &[usize; layout::MOST_DESCRIPTORS],
-    ends: &[usize; layout::MOST_DESCRIPTORS],
-) -> bool
-    requires { Bounded elements.now n ends.now }
-    ensures { result ≡ any_from (taken_in elements.now host id firsts.now ends.now) n 0 }
+// Outer loop over descriptors, inner over the elements that each of them names: the label leaves both at the first that is taken.
+fn conflicts(elements: &[u8], claim: Claim, spans: &[Span]) -> bool
+    requires { Bounded elements.now spans.now }
+    ensures { result ≡ any_from (taken_of elements.now claim.host claim.id spans.now) (length spans.now) 0 }
 {
-    let mut bad = false;
-    let mut k: usize = 0;
-    'judged: while k < n {
-        let end = ends[k];
-        let mut p = firsts[k];
-        while p < end {
-            if taken_at(elements, host, id, p) {
-                bad = true;
+    let mut conflict = false;
+    'judged: for span in spans {
+        for place in span.first..span.end {
+            if taken_at(elements, claim, place) {
+                conflict = true;
                 break 'judged;
             }
-            p += 1;
         }
-        k += 1;
     }
-    bad
+    conflict
 }
 
 // ---- RESERVE of elements
@@ -75,131 +62,102 @@ fn conflicts(
 fn judge_elements(
     runs: [Range; 4],
     elements: &[u8],
-    host: u8,
-    id: u8,
+    claim: Claim,
     list: &[u8],
     marks: &mut [u8; layout::MOST_ELEMENTS],
-) -> Ruling
+) -> Result<(), Refusal>
     requires laid_out { LaidOut runs elements.now }
     requires marks { Marks (laid runs) list.now 0 marks.old }
-    ensures value { result ≡ elements_by (laid runs) elements.now host id list.now }
-    ensures grantable { Grantable (laid runs) list.now marks.new result }
+    ensures value { result ≡ elements_by (laid runs) elements.now claim.host claim.id list.now }
+    ensures grantable { OnOk result (Marks (laid runs) list.now (descriptors list.now) marks.new) }
 {
     if lists::wrong_length(list) {
-        return Ruling::Refused(Cause::ListLength);
+        return Err(Refusal::For(Cause::ListLength));
     }
     let n = lists::count(list);
-    let mut firsts = [0usize; layout::MOST_DESCRIPTORS];
-    let mut ends = [0usize; layout::MOST_DESCRIPTORS];
-    let mut k: usize = 0;
-    while k < n {
-        match lists::judge(runs, list, k, marks) {
-            Named::Wrong(cause) => return Ruling::Refused(cause),
-            Named::Elements(s) => {
-                firsts[k] = s.first;
-                ends[k] = s.end;
-            }
-        }
-        k += 1;
+    let mut spans = [Span { first: 0, end: 0 }; layout::MOST_DESCRIPTORS];
+    for k in 0..n {
+        spans[k] = lists::judge(runs, list, k, marks)?;
     }
-    if conflicts(elements, host, id, n, &firsts, &ends) {
-        return Ruling::Conflict;
+    if conflicts(elements, claim, &spans[..n]) {
+        return Err(Refusal::Conflict);
     }
-    Ruling::Elements
+    Ok(())
 }
 
 // An element is held if it is named, else freed if it is "this host's .. of that id".
-fn settle(elements: &mut [u8], host: u8, id: u8, place: usize, marks: &[u8; layout::MOST_ELEMENTS])
+#[tactic(auto, unfolding(crate::specs::Judged::settled_at, lists::specs::Named::marked, rules::specs::Choice::when, rules::specs::Choice::differ))]
+fn settle(elements: &mut [u8], claim: Claim, place: usize, marks: &[u8; layout::MOST_ELEMENTS])
     requires element_size_in_bounds { element_at place + element_size ≤ length elements.old }
     requires place_lt_most_elements { place < most_elements }
-    ensures { elements.new ≡ settled_at marks.now host id place elements.old }
+    ensures { elements.new ≡ settled_at marks.now claim.host claim.id place elements.old }
 {
     if marks[place] != 0 {
-        tables::element::hold(elements, place, host, id);
-        return;
+        tables::element::hold(elements, place, claim.host, claim.id);
+    } else {
+        frees::free_at(elements, Whose::Under(claim.host, claim.id), place);
     }
-    frees::free_at(elements, Whose::Under(host, id), place);
 }
 
 // "this host's old elements of that id are freed, then those named are held": both in one pass over the table.
-fn grant(elements: &mut [u8], host: u8, id: u8, marks: &[u8; layout::MOST_ELEMENTS])
+fn grant(elements: &mut [u8], claim: Claim, marks: &[u8; layout::MOST_ELEMENTS])
     requires { places elements.old ≤ most_elements }
-    ensures { elements.new ≡ settled marks.now host id elements.old }
+    ensures { elements.new ≡ settled marks.now claim.host claim.id elements.old }
 {
-    let n = tables::element::places(elements);
-    let mut p: usize = 0;
-    while p < n {
-        settle(elements, host, id, p, marks);
-        p += 1;
-    }
-}
-
-// What was judged is carried out, for the list whose elements are marked.
-fn carry_out(
-    head: &mut [u8],
-    elements: &mut [u8],
-    host: u8,
-    id: u8,
-    marks: &[u8; layout::MOST_ELEMENTS],
-    ruling: Ruling,
-) -> Reply
-    requires { Carriable head.old elements.old host }
-    ensures { (ss : List Slot) (list : List ℕ) (rest : Rest) (buffer : List ℕ) → Grantable ss list marks.now ruling → ended result (lent head.new elements.new rest) buffer ≡ outcome (lent head.old elements.old rest) buffer (meaning ss host id list ruling) }
-{
-    match ruling {
-        Ruling::Refused(cause) => order::refuse(head, host, cause),
-        Ruling::Conflict => order::conflict(head, host),
-        Ruling::Elements => {
-            grant(elements, host, id, marks);
-            order::good(head, host)
-        }
+    for place in 0..tables::element::places(elements) {
+        settle(elements, claim, place, marks);
     }
 }
 
 fn reserve_elements(
     runs: [Range; 4],
-    head: &mut [u8],
+    head: &mut [u8; layout::HEAD_SIZE],
     elements: &mut [u8],
-    host: u8,
+    host: Host,
     id: u8,
     list: &[u8],
 ) -> Reply
-    requires head_size_in_bounds { head_size ≤ length head.old }
-    requires host_le_hosts { host ≤ hosts }
-    requires laid_out { LaidOut runs elements.old }
-    ensures { (rest : Rest) (buffer : List ℕ) → ended result (lent head.new elements.new rest) buffer ≡ outcome (lent head.old elements.old rest) buffer (meaning (laid runs) host id list.now (elements_by (laid runs) elements.old host id list.now)) }
+    requires { LaidOut runs elements.old }
+    ensures { (rest : Rest) (buffer : List ℕ) → ended result (lent head.new elements.new rest) buffer ≡ outcome (lent head.old elements.old rest) buffer (meaning (laid runs) host.number id list.now (elements_by (laid runs) elements.old host.number id list.now)) }
 {
+    let claim = Claim {
+        host: host.number,
+        id,
+    };
     let mut marks = [0u8; layout::MOST_ELEMENTS];
-    let ruling = judge_elements(runs, elements, host, id, list, &mut marks);
-    carry_out(head, elements, host, id, &marks, ruling)
+    match judge_elements(runs, elements, claim, list, &mut marks) {
+        Ok(()) => {
+            grant(elements, claim, &marks);
+            order::good(head, host)
+        }
+        Err(why) => order::refused(head, host, why),
+    }
 }
 
 // ---- the commands
 
 // "refused 18h if another host holds any element, else the host holds the unit"
-fn reserve_unit(head: &mut [u8], elements: &[u8], host: u8) -> Reply
-    requires head_size_in_bounds { head_size ≤ length head.old }
-    requires host_le_hosts { host ≤ hosts }
-    ensures { (rest : Rest) (buffer : List ℕ) → ended result (lent head.new elements.now rest) buffer ≡ outcome (lent head.old elements.now rest) buffer (reserve_unit (lent head.old elements.now rest) host) }
+fn reserve_unit(head: &mut [u8; layout::HEAD_SIZE], elements: &[u8], host: Host) -> Reply
+    ensures { (rest : Rest) (buffer : List ℕ) → ended result (lent head.new elements.now rest) buffer ≡ outcome (lent head.old elements.now rest) buffer (reserve_unit (lent head.old elements.now rest) host.number) }
 {
-    if order::any_other(elements, host) {
+    if order::any_other(elements, host.number) {
         return order::conflict(head, host);
     }
     let reply = order::good(head, host);
-    tables::head::hold_unit(head, host);
+    tables::head::hold_unit(head, host.number);
     reply
 }
 
 pub fn reserve(
     runs: [Range; 4],
-    head: &mut [u8],
+    head: &mut [u8; layout::HEAD_SIZE],
     elements: &mut [u8],
-    host: u8,
-    block: &[u8],
+    host: Host,
+    block: &[u8; 6],
     list: &[u8],
 ) -> Reply
-    requires { Reservable runs head.old elements.old host block.now }
-    ensures { (rest : Rest) (buffer : List ℕ) → ended result (lent head.new elements.new rest) buffer ≡ outcome (lent head.old elements.old rest) buffer (reserve (lent head.old elements.old rest) host block.now list.now) }
+    requires { Reservable runs head.old elements.old }
+    ensures { (rest : Rest) (buffer : List ℕ) → ended result (lent head.new elements.new rest) buffer ≡ outcome (lent head.old elements.old rest) buffer (reserve (lent head.old elements.old rest) host.number block.now list.now) }
 {
     if block[1] % 2 == 0 {
         return reserve_unit(head, elements, host);
@@ -208,54 +166,47 @@ pub fn reserve(
 }
 
 // "frees the unit, if held by this host, and all its elements"
-fn release_unit(head: &mut [u8], elements: &mut [u8], host: u8) -> Reply
-    requires head_size_in_bounds { head_size ≤ length head.old }
-    requires host_le_hosts { host ≤ hosts }
-    ensures { (rest : Rest) (buffer : List ℕ) → ended result (lent head.new elements.new rest) buffer ≡ outcome (lent head.old elements.old rest) buffer (good host (release_unit (lent head.old elements.old rest) host)) }
+fn release_unit(head: &mut [u8; layout::HEAD_SIZE], elements: &mut [u8], host: Host) -> Reply
+    ensures { (rest : Rest) (buffer : List ℕ) → ended result (lent head.new elements.new rest) buffer ≡ outcome (lent head.old elements.old rest) buffer (good host.number (release_unit (lent head.old elements.old rest) host.number)) }
 {
     let unit = tables::head::unit(head);
     let reply = order::good(head, host);
-    frees::free(elements, Whose::Every(host));
-    if unit == host {
+    frees::free(elements, Whose::Every(host.number));
+    if unit == host.number {
         tables::head::hold_unit(head, 0);
-        return reply;
     }
     reply
 }
 
-pub fn release(head: &mut [u8], elements: &mut [u8], host: u8, block: &[u8]) -> Reply
-    requires head_size_in_bounds { head_size ≤ length head.old }
-    requires host_le_hosts { host ≤ hosts }
-    requires block_len { length block.now ≡ 6 }
-    ensures { (rest : Rest) (buffer : List ℕ) → ended result (lent head.new elements.new rest) buffer ≡ outcome (lent head.old elements.old rest) buffer (release (lent head.old elements.old rest) host block.now) }
+pub fn release(
+    head: &mut [u8; layout::HEAD_SIZE],
+    elements: &mut [u8],
+    host: Host,
+    block: &[u8; 6],
+) -> Reply
+    ensures { (rest : Rest) (buffer : List ℕ) → ended result (lent head.new elements.new rest) buffer ≡ outcome (lent head.old elements.old rest) buffer (release (lent head.old elements.old rest) host.number block.now) }
 {
     if block[1] % 2 == 0 {
         return release_unit(head, elements, host);
     }
     let number = block[2];
-    frees::free(elements, Whose::Under(host, number));
+    frees::free(elements, Whose::Under(host.number, number));
     order::good(head, host)
 }
 
 // "byte 4 bit 0 sets or clears the host's mask bit"
-fn new_mask(mask: u8, host: u8, block: &[u8]) -> u8
-    requires le_host { 1 ≤ host }
-    requires host_le_hosts { host ≤ hosts }
-    requires block_len { length block.now ≡ 6 }
-    ensures { result ≡ new_mask mask host block.now }
+#[tactic(auto, unfolding(rules::specs::Holds::new_mask, rules::specs::Choice::when, rules::specs::Bytes::byte))]
+fn new_mask(mask: u8, host: Host, block: &[u8; 6]) -> u8
+    ensures { result ≡ new_mask mask host.number block.now }
 {
     if block[4] % 2 == 0 {
-        return tables::mask::allowing(mask, host);
+        return tables::mask::allowing(mask, host.number);
     }
-    tables::mask::preventing(mask, host)
+    tables::mask::preventing(mask, host.number)
 }
 
-pub fn prevent_allow(head: &mut [u8], host: u8, block: &[u8]) -> Reply
-    requires head_size_in_bounds { head_size ≤ length head.old }
-    requires le_host { 1 ≤ host }
-    requires host_le_hosts { host ≤ hosts }
-    requires block_len { length block.now ≡ 6 }
-    ensures { (elements : List ℕ) (rest : Rest) (buffer : List ℕ) → ended result (lent head.new elements rest) buffer ≡ outcome (lent head.old elements rest) buffer (prevent (lent head.old elements rest) host block.now) }
+pub fn prevent_allow(head: &mut [u8; layout::HEAD_SIZE], host: Host, block: &[u8; 6]) -> Reply
+    ensures { (elements : List ℕ) (rest : Rest) (buffer : List ℕ) → ended result (lent head.new elements rest) buffer ≡ outcome (lent head.old elements rest) buffer (prevent (lent head.old elements rest) host.number block.now) }
 {
     let mask = new_mask(tables::head::mask(head), host, block);
     let reply = order::good(head, host);

@@ -9,7 +9,7 @@ use lib.ListN.{length, take}
 use lib.Dec.{leb}
 use Rattle.rules.specs.Choice.{when}
 use Rattle.rules.specs.Bytes.{word, triple}
-use Rattle.rules.specs.Tables.{Tables, hosts, lent, sensed, Change, Sense, in_head, change, changes, bare}
+use Rattle.rules.specs.Tables.{Tables, lent, sensed, Change, Sense, in_head, change, changes, bare}
 use Rattle.rules.specs.Roster.{Slot, Range, ranges, sorted, spread, roster}
 use Rattle.rules.specs.Sound.{sound}
 use Rattle.rules.specs.Order.{Outcome, outcome, fits, Number, Done, GOOD}
@@ -20,7 +20,9 @@ use Rattle.rules.proofs.Soundness.{sound-true, RangeFits}
 use Rattle.rules.proofs.Places.{spread-length}
 use Rattle.rules.proofs.Ascending.{each_map, sorted-fit, ranges-sound, kinds-differ, kinds-stand}
 use Rattle.order.specs.declared.Reply.{Reply}
-use Rattle.order.specs.Ending.{ended}
+use Rattle.order.specs.Ending.{ended, numbered}
+use Rattle.order.specs.declared.House.{House}
+use Rattle.order.specs.declared.House.TheVariants.{UnsoundTables, UnknownHost, BlockLength, ParameterLength, ShortBuffer, UnknownPort, Prevented, PortContent, WrongVolume}
 use Rattle.pages.specs.Pages.{stock}
 use Rattle.tables.specs.declared.Range.{Range as Code}
 use Rattle.tables.specs.Ranges.{meant, Runs}
@@ -53,11 +55,8 @@ listable t e =
     }
 
 -- and read, by their runs
-pub readable : (t : Tables) (runs : List Code) (host : ℕ) (block : List ℕ) → sound t ≡ true → Runs runs t.head → host ≤ hosts → length block ≡ 12
-    → Readable runs t.head (stock t.elements t.rest.tags t.rest.blank) host block
-readable t runs host block e is h n =
-    let s = (sound-true t e).head-fits in
-    record { long = omega arith; runs-are = is; listable = rw is (listable t e); known = h; twelve = n }
+pub readable : (t : Tables) (runs : List Code) → sound t ≡ true → Runs runs t.head → Readable runs t.head (stock t.elements t.rest.tags t.rest.blank)
+readable t runs e is = record { runs-are = is; listable = rw is (listable t e) }
 
 -- ---- the bytes are the rules'
 
@@ -92,6 +91,19 @@ unfolding chosen_by chosen_of roster
 all-selected t runs block is = rw (is, keep-unmarked [] (spread 0 (sorted (ranges t.head))) refl)
 
 -- ---- the ways out
+
+-- no house number is 0
+pub some_number : (why : House) → (numbered why).number ≢ 0
+unfolding numbered
+some_number UnsoundTables e = absurd (omega arith)
+some_number UnknownHost e = absurd (omega arith)
+some_number BlockLength e = absurd (omega arith)
+some_number ParameterLength e = absurd (omega arith)
+some_number ShortBuffer e = absurd (omega arith)
+some_number UnknownPort e = absurd (omega arith)
+some_number (Prevented preventers lowest) e = absurd (omega arith)
+some_number PortContent e = absurd (omega arith)
+some_number WrongVolume e = absurd (omega arith)
 
 -- an outcome with other tables
 abbrev leaving : Tables → Outcome → Outcome

@@ -18,6 +18,7 @@ use Rattle.pages.specs.Marks.{marked_of, marks_in, reach_of}
 use Rattle.pages.proofs.Marked.{marks-length, marks-bound, reach_few, reach-marked, reach-behind}
 use Rattle.listing.specs.declared.Query.{Query}
 use Rattle.listing.specs.declared.Tally.{Tally}
+use Rattle.listing.specs.declared.Part.{Part}
 use Rattle.listing.specs.Plan.{skips, suits, offered}
 use Rattle.listing.specs.Counting.{Inside, picked_at, chosen_at, fitting_at, reach_at, part_of, some, lead_of, next_of, step_by, step_of, Small}
 use Rattle.listing.proofs.Fitting.{fit_is}
@@ -114,13 +115,13 @@ module _ (marks : List ℕ) (q : Query) (s : Tally) (r : Range) where
       (first-behind (picked_at marks q s r) ∙ ap (λ (x : ℕ). x - 1) (picked-behind 1 0 (omega arith))))
 
   -- where none is chosen, none fits and none is looked for
-  pub none-part : chosen_at marks q s r ≡ 0 → record { n = 0; m = 0; lead = 0; run = 0 } ≡ part_of marks q s r
+  pub none-part : (p : Part) → p.n ≡ 0 → p.m ≡ 0 → p.lead ≡ 0 → p.run ≡ 0 → chosen_at marks q s r ≡ 0 → p ≡ part_of marks q s r
   unfolding reach_of some when
-  none-part z =
+  none-part p a b d e z =
       let m : fitting_at marks q s r ≡ 0 = omega (arith, (fit_is q.tagged s.room (chosen_at marks q s r)).few) in
       let l : reach_at marks q s r (some (chosen_at marks q s r)) ≡ 0 = rw z refl in
       let k : reach_at marks q s r (fitting_at marks q s r) ≡ 0 = rw m refl in
-      λ i. record { n = sym z i; m = sym m i; lead = sym l i; run = sym k i }
+      λ i. record { n = (a ∙ sym z) i; m = (b ∙ sym m) i; lead = (d ∙ sym l) i; run = (e ∙ sym k) i }
 
   -- the numbers of the part are small
   pub part_small : Inside r → s.number + s.left < 65536 → Small s (part_of marks q s r)

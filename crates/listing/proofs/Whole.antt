@@ -4,7 +4,7 @@ use native.Mathlib.Nat.{zero-add}
 use native.Mathlib.Omega.{arith}
 use mathlib.Core.Path.{◌≡◌, refl, sym, ap, ◌∙◌}
 use mathlib.Core.List.{List, [], ◌++◌}
-use lib.ListN.{length, take, length-append}
+use lib.ListN.{length, take, length-append, length-map}
 use lib.Dec.{leb}
 use borrow.Author.Tests.{lt-ltb, le-ltb, le-leb, lt-leb}
 use Rattle.rules.specs.Bytes.{put, three, cut}
@@ -15,9 +15,12 @@ use Rattle.rules.specs.Listing.{header, header_of, returned, wholes, joined, fir
 use Rattle.rules.specs.Search.{behind_all}
 use Rattle.rules.proofs.Ladder.{when_true, when_false}
 use Rattle.rules.specs.Ranges.{Each, total}
+use Rattle.tables.specs.declared.Range.{Range as Code}
+use Rattle.tables.specs.Ranges.{meaning, meant}
 use Rattle.rules.proofs.Writes.{put-append, cut-length, cut-least}
 use Rattle.order.specs.declared.Reply.{Reply}
 use Rattle.order.specs.Ending.{numbered, told}
+use Rattle.order.specs.declared.House.TheVariants.{ShortBuffer}
 use Rattle.listing.specs.declared.Query.{Query}
 use Rattle.listing.specs.declared.Tally.{Tally}
 use Rattle.listing.specs.Plan.{planned}
@@ -41,8 +44,8 @@ unfolding outcome fits changes
 answers-told bytes entry exit n e c h =
     rw (when_true (leb (length bytes) (length entry)) (Done GOOD bytes []) (Number 5) (le-leb (length bytes) (length entry) (omega arith)), e, c)
 
-pub answers-refused : (bytes entry : List ℕ) → length entry < length bytes → Answers bytes entry entry (numbered 5)
-unfolding outcome fits
+pub answers-refused : (bytes entry : List ℕ) → length entry < length bytes → Answers bytes entry entry (numbered ShortBuffer)
+unfolding outcome fits numbered
 answers-refused bytes entry h = rw (when_false (leb (length bytes) (length entry)) (Done GOOD bytes []) (Number 5) (lt-leb _ _ h))
 
 -- ---- the listing
@@ -59,6 +62,10 @@ header-cut allocation action x = cut-least allocation (header_at action x)
 pub header-cut-length : (allocation action : ℕ) (x : Tally) → length (cut allocation (header_at action x)) ≡ min allocation 8
 unfolding header three
 header-cut-length allocation action x = cut-length allocation (header_at action x)
+
+pub four : (rs : List Code) → length rs ≡ 4 → length (meant rs) ≡ 4
+unfolding meant
+four rs n = length-map rs meaning ∙ n
 
 -- the counts behind four ranges are small
 pub last_within : (marks : List ℕ) (q : Query) (rs : List Range) (most room from : ℕ) → Each Inside rs → length rs ≡ 4 → q.start < 65536 → most < 65536
@@ -140,5 +147,5 @@ module _ (marks : List ℕ) (q : Query) (t : Tables) (rs : List Range) (most roo
       → Answers (listed marks q t rs most room) entry exit (told 0x00 x.at)
   long-answers entry exit h l e = answers-told _ entry exit x.at (e ∙ written entry h) (sym (listed-length h)) l
 
-  pub long-refused : (entry : List ℕ) → 8 ≤ room → length entry < x.at → Answers (listed marks q t rs most room) entry entry (numbered 5)
+  pub long-refused : (entry : List ℕ) → 8 ≤ room → length entry < x.at → Answers (listed marks q t rs most room) entry entry (numbered ShortBuffer)
   long-refused entry h l = answers-refused _ entry (omega (arith, listed-length h))

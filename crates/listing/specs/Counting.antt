@@ -1,8 +1,8 @@
 -- The stands of a listing from range to range, and what the whole comes to. Assumes nothing.
-use Rattle.std.specs.Prelude.{ℕ, ◌+◌, ◌*◌, ◌-◌, ◌≤◌, ◌<◌, ◌≡◌, List, [], ◌∷◌, length, take, eqb}
+use Rattle.std.specs.Prelude.{ℕ, ◌+◌, ◌*◌, ◌-◌, ◌≤◌, ◌<◌, ◌≡◌, List, [], ◌∷◌, Result, Ok, Err, length, take, eqb}
 use Rattle.rules.specs.Choice.{when}
 use Rattle.rules.specs.Bytes.{word}
-use Rattle.rules.specs.Tables.{Tables, lent, element_at, bare, head_size, hosts}
+use Rattle.rules.specs.Tables.{Tables, lent, element_at, bare}
 use Rattle.rules.specs.Roster.{Slot, Range, spread}
 use Rattle.rules.specs.Sound.{behind}
 use Rattle.rules.specs.Order.{outcome, fits, Done, GOOD}
@@ -11,7 +11,8 @@ use Rattle.rules.specs.Search.{behind_all}
 use Rattle.rules.specs.Ranges.{Each, Pairs, Differ, total}
 use Rattle.tables.specs.declared.Range.{Range as Declared}
 use Rattle.tables.specs.Ranges.{meant, Runs}
-use Rattle.order.specs.Ending.{ended}
+use Rattle.order.specs.Ending.{ended, numbered, told}
+use Rattle.order.specs.declared.House.{House}
 use Rattle.order.specs.declared.Reply.{Reply}
 use Rattle.pages.specs.Marks.{marked, reach_of}
 use Rattle.pages.specs.Pages.{Labelled, page_bytes, shown}
@@ -151,13 +152,15 @@ pub record Listable (rs : List Range) (t : Tables) : Type 0 where
   pub stands : element_at (total rs) ≤ length t.elements
   pub labels : Labelled t
 
--- what the command stands on: the runs of a head that is long enough, tables that can be listed by them, a host, a block of 12 bytes
-pub record Readable (runs : List Declared) (head : List ℕ) (t : Tables) (host : ℕ) (block : List ℕ) : Type 0 where
-  pub long : head_size ≤ length head
+-- what the command stands on: the runs of a head, and tables that can be listed by them
+pub record Readable (runs : List Declared) (head : List ℕ) (t : Tables) : Type 0 where
   pub runs-are : Runs runs head
   pub listable : Listable (meant runs) t
-  pub known : host ≤ hosts
-  pub twelve : length block ≡ 12
+
+-- the reply of a call that hands back so many bytes, or why none
+abbrev pub reply_of : Result ℕ House → Reply
+reply_of (Ok count) = told 0x00 count
+reply_of (Err why) = numbered why
 
 -- what a GOOD reply with these bytes leaves of an answer buffer: house number 5 and nothing changed where they do not fit
 abbrev pub Answers : List ℕ → List ℕ → List ℕ → Reply → Type 0

@@ -1,13 +1,12 @@
 -- RESERVE's list as the code reads it: what a descriptor names or its fault, and the places named so far. Assumes nothing.
-use Rattle.std.specs.Prelude.{ℕ, ◌+◌, ◌≤◌, ◌<◌, ◌≡◌, List, Bool, length, get_or, set, eqb}
+use Rattle.std.specs.Prelude.{ℕ, ◌+◌, ◌≤◌, ◌<◌, ◌≡◌, List, Bool, Result, Ok, Err, length, get_or, set, eqb}
 use Rattle.rules.specs.Choice.{when, differ, any_from}
 use Rattle.rules.specs.Tables.{most_elements}
 use Rattle.rules.specs.Roster.{Slot}
 use Rattle.rules.specs.Holds.{descriptors, reserved_bytes, first, many, unknown, too_many, named_before}
+use Rattle.order.specs.declared.Cause.{Cause}
 use Rattle.order.specs.declared.Cause.TheVariants.{ListField, WrongAddress}
 use Rattle.lists.specs.declared.Span.{Span}
-use Rattle.lists.specs.declared.Named.{Named}
-use Rattle.lists.specs.declared.Named.TheVariants.{Wrong, Elements}
 
 -- ---- the k-th descriptor, from 0
 
@@ -16,20 +15,20 @@ abbrev pub span_at : List Slot → List ℕ → ℕ → Span
 span_at ss list k = record { first = first ss list k; end = first ss list k + many ss list k }
 
 -- "an unknown address or too many"
-abbrev pub wrong : Named
-wrong = Wrong WrongAddress
+abbrev pub wrong : Result Span Cause
+wrong = Err WrongAddress
 
 -- one rung for each test, and what follows: reserved bytes, unknown, too many
-unfoldable pub looked_up_then : List Slot → List ℕ → ℕ → Named → Named
+unfoldable pub looked_up_then : List Slot → List ℕ → ℕ → Result Span Cause → Result Span Cause
 looked_up_then ss list k rest =
-    when (differ (reserved_bytes list k) 0) (Wrong ListField) (when (unknown ss list k) wrong (when (too_many ss list k) wrong rest))
+    when (differ (reserved_bytes list k) 0) (Err ListField) (when (unknown ss list k) wrong (when (too_many ss list k) wrong rest))
 
-abbrev pub looked_up : List Slot → List ℕ → ℕ → Named
-looked_up ss list k = looked_up_then ss list k (Elements (span_at ss list k))
+abbrev pub looked_up : List Slot → List ℕ → ℕ → Result Span Cause
+looked_up ss list k = looked_up_then ss list k (Ok (span_at ss list k))
 
 -- and, last, named before
-unfoldable pub judged_at : List Slot → List ℕ → ℕ → Named
-judged_at ss list k = looked_up_then ss list k (when (named_before ss list k) wrong (Elements (span_at ss list k)))
+unfoldable pub judged_at : List Slot → List ℕ → ℕ → Result Span Cause
+judged_at ss list k = looked_up_then ss list k (when (named_before ss list k) wrong (Ok (span_at ss list k)))
 
 -- ---- a mark for each place
 
@@ -60,6 +59,6 @@ pub record Judging (ss : List Slot) (list : List ℕ) (k : ℕ) (marks : List �
   pub so_far : Marks ss list k marks
 
 -- where nothing was wrong, it names elements of the table, which are marked too
-abbrev pub Judged : List Slot → List ℕ → ℕ → List ℕ → Named → Type 0
-Judged ss list n marks (Wrong c) = Unit {0}
-Judged ss list n marks (Elements s) = (s.first ≤ s.end) × (s.end ≤ length ss) × Marks ss list n marks
+abbrev pub Judged : List Slot → List ℕ → ℕ → List ℕ → Result Span Cause → Type 0
+Judged ss list n marks (Err c) = Unit {0}
+Judged ss list n marks (Ok s) = (s.first ≤ s.end) × (s.end ≤ length ss) × Marks ss list n marks

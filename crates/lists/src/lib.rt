@@ -9,7 +9,7 @@ ghost use Rattle.tables.specs.Ranges.{laid};
 ghost use Rattle.lists.specs.Named.{looked_up, judged_at, marked, mark_at, Judging, Judged};
 
 use order::Cause;
-use tables::{Found, Range, Types};
+use tables::{Range, Types};
 
 // The elements that a descriptor names: the first place, and the one behind the last.
 #[derive(Clone, Copy)]
@@ -18,14 +18,8 @@ pub struct Span {
     pub end: usize,
 }
 
-// What a descriptor names, or why it is refused.
-#[derive(Clone, Copy)]
-pub enum Named {
-    Wrong(Cause),
-    Elements(Span),
-}
-
 // How many descriptors a list holds.
+#[tactic(auto, unfolding(rules::specs::Holds::descriptors))]
 pub fn count(list: &[u8]) -> usize
     ensures { result ≡ descriptors list.now }
 {
@@ -33,20 +27,18 @@ pub fn count(list: &[u8]) -> usize
 }
 
 // "1 to 32 descriptors of 6 bytes"
+#[tactic(auto, unfolding(rules::specs::Holds::wrong_list_length, rules::specs::Choice::any_of, rules::specs::Choice::when, rules::specs::Choice::differ))]
 pub fn wrong_length(list: &[u8]) -> bool
     ensures { result ≡ wrong_list_length list.now }
 {
     let n = list.len();
-    if n == 0 {
-        return true;
-    }
-    if layout::MOST_DESCRIPTORS * layout::DESCRIPTOR_SIZE < n {
-        return true;
-    }
-    n % layout::DESCRIPTOR_SIZE != 0
+    n == 0
+        || layout::MOST_DESCRIPTORS * layout::DESCRIPTOR_SIZE < n
+        || n % layout::DESCRIPTOR_SIZE != 0
 }
 
 // "n elements in table order .. 0 meaning through the last": the place behind the last of them.
+#[tactic(auto, unfolding(rules::specs::Choice::when))]
 fn end_of(total: usize, first: usize, number: u16) -> usize
     requires first_le_total { first ≤ total }
     requires total_bound { total < 262144 }
@@ -59,23 +51,24 @@ fn end_of(total: usize, first: usize, number: u16) -> usize
 }
 
 // "reserved bytes before the address .. an unknown address or too many": here an address is looked up, once.
-fn look_up(runs: [Range; 4], list: &[u8], k: usize) -> Named
+#[tactic(auto, unfolding(rules::specs::Holds::descriptors))]
+fn look_up(runs: [Range; 4], list: &[u8], k: usize) -> Result<Span, Cause>
     requires { k < descriptors list.now }
     ensures { result ≡ looked_up (laid runs) list.now k }
 {
     let d = reader::read_at(list, layout::DESCRIPTOR_SIZE * k);
     if d.reserved != 0 {
-        return Named::Wrong(Cause::ListField);
+        return Err(Cause::ListField);
     }
-    let Found::At(first) = tables::find(runs, d.address as u32, Types::Any) else {
-        return Named::Wrong(Cause::WrongAddress);
+    let Some(first) = tables::find(runs, d.address as u32, Types::Any) else {
+        return Err(Cause::WrongAddress);
     };
     let total = tables::total(runs);
     let end = end_of(total, first, d.number);
     if total < end {
-        return Named::Wrong(Cause::WrongAddress);
+        return Err(Cause::WrongAddress);
     }
-    Named::Elements(Span { first, end })
+    Ok(Span { first, end })
 }
 
 // Whether one of the places is marked; where none is, each of them is from now on.
@@ -85,14 +78,11 @@ fn mark(marks: &mut [u8; layout::MOST_ELEMENTS], s: Span) -> bool
     ensures value { result ≡ any_from (marked marks.old) (s.end - s.first) s.first }
     ensures marks_after { result ≡ false → marks.new ≡ each mark_at (s.end - s.first) s.first marks.old }
 {
-    let end = s.end;
-    let mut p = s.first;
-    while p < end {
+    for p in s.first..s.end {
         if marks[p] != 0 {
             return true;
         }
         marks[p] = 1;
-        p += 1;
     }
     false
 }
@@ -104,18 +94,14 @@ pub fn judge(
     list: &[u8],
     k: usize,
     marks: &mut [u8; layout::MOST_ELEMENTS],
-) -> Named
+) -> Result<Span, Cause>
     requires { Judging (laid runs) list.now k marks.old }
     ensures value { result ≡ judged_at (laid runs) list.now k }
     ensures judged { Judged (laid runs) list.now (k + 1) marks.new result }
 {
-    match look_up(runs, list, k) {
-        Named::Wrong(cause) => Named::Wrong(cause),
-        Named::Elements(s) => {
-            if mark(marks, s) {
-                return Named::Wrong(Cause::WrongAddress);
-            }
-            Named::Elements(s)
-        }
+    let span = look_up(runs, list, k)?;
+    if mark(marks, span) {
+        return Err(Cause::WrongAddress);
     }
+    Ok(span)
 }

@@ -22,26 +22,28 @@ module _ (t : Tables) (h : ℕ) (block list : List ℕ) (s : sound t ≡ true) w
   unfolding after_line after
   numbered n e = ap (λ (v : Verdict). after v t) e
 
-  module _ (k : Bool) (ke : k ≡ within 1 hosts h) where
-    pub no-host : k ≡ false → t ≡ after_line t asked
+  pub no-host : within 1 hosts h ≡ false → t ≡ after_line t asked
+  unfolding answerless after_numbers
+  no-host x = numbered 2 (yes _ _ _ _ _ refl s (no _ _ _ _ _ refl x refl))
+
+  module _ (known : within 1 hosts h ≡ true) (f : Bool) (fe : f ≡ block_fits block) where
+    pub no_block : f ≡ false → t ≡ after_line t asked
     unfolding answerless after_numbers
-    no-host x = numbered 2 (yes _ _ _ _ _ refl s (no _ _ _ _ _ ke x refl))
+    no_block x = numbered 3 (yes _ _ _ _ _ refl s (yes _ _ _ _ _ refl known (no _ _ _ _ _ fe x refl)))
 
-    module _ (ky : k ≡ true) (f : Bool) (fe : f ≡ block_fits block) where
-      pub no_block : f ≡ false → t ≡ after_line t asked
+    module _ (fy : f ≡ true) (p : Bool) (pe : p ≡ parameters_fit block list) where
+      pub no-list : p ≡ false → t ≡ after_line t asked
       unfolding answerless after_numbers
-      no_block x = numbered 3 (yes _ _ _ _ _ refl s (yes _ _ _ _ _ ke ky (no _ _ _ _ _ fe x refl)))
+      no-list x = numbered 4 (yes _ _ _ _ _ refl s (yes _ _ _ _ _ refl known (yes _ _ _ _ _ fe fy (no _ _ _ _ _ pe x refl))))
 
-      module _ (fy : f ≡ true) (p : Bool) (pe : p ≡ parameters_fit block list) where
-        pub no-list : p ≡ false → t ≡ after_line t asked
-        unfolding answerless after_numbers
-        no-list x = numbered 4 (yes _ _ _ _ _ refl s (yes _ _ _ _ _ ke ky (yes _ _ _ _ _ fe fy (no _ _ _ _ _ pe x refl))))
+      steps-asked : p ≡ true → steps t h block list ≡ answerless t asked
+      unfolding answerless after_numbers
+      steps-asked x = yes _ _ _ _ _ refl s (yes _ _ _ _ _ refl known (yes _ _ _ _ _ fe fy (yes _ _ _ _ _ pe x refl)))
 
-        steps-asked : p ≡ true → steps t h block list ≡ answerless t asked
-        unfolding answerless after_numbers
-        steps-asked x = yes _ _ _ _ _ refl s (yes _ _ _ _ _ ke ky (yes _ _ _ _ _ fe fy (yes _ _ _ _ _ pe x refl)))
-
-        pub obeyed : p ≡ true → (op : Operation) → meaning op ≡ operation block → (u : Tables) → u ≡ after (steps_of (meaning op) t h block list) t → u ≡ after_line t asked
-        unfolding after_line steps
-        obeyed x op is u e =
-            let a : steps_of (meaning op) t h block list ≡ answerless t asked = rw is (steps-asked x) in e ∙ ap (λ (v : Verdict). after v t) a
+      pub obeyed : p ≡ true → (op : Operation) → meaning op ≡ operation block → (n : ℕ) → n ≡ h → (u : Tables) → u ≡ after (steps_of (meaning op) t n block list) t
+          → u ≡ after_line t asked
+      unfolding after_line steps
+      obeyed x op is n same u e =
+          let a : steps_of (meaning op) t h block list ≡ answerless t asked = rw is (steps-asked x) in
+          let b : u ≡ after (steps_of (meaning op) t h block list) t = rw same at e in
+          b ∙ ap (λ (v : Verdict). after v t) a

@@ -1,62 +1,62 @@
--- A recorded event: each way out of its form is the rules', and it leaves the tables that they say. Assumes nothing.
+-- A recorded event leaves the tables that the rules say. Assumes nothing.
 use Prim.Native.Nat.{ℕ}
 use mathlib.Core.Path.{◌≡◌, refl, sym, ap, ◌∙◌}
 use mathlib.Core.Bool.{true}
 use mathlib.Core.List.{List, []}
-use lib.ListN.{length}
+use lib.ListN.{length, get_or}
 use borrow.Author.Tests.{eq-eqb, ne_eqb}
 use Rattle.rules.specs.Choice.{when, all_of}
 use Rattle.rules.specs.Bytes.{byte, word}
 use Rattle.rules.specs.Tables.{Tables}
 use Rattle.rules.specs.Order.{Outcome, outcome}
 use Rattle.rules.specs.Command.{Call, Import, Export, Reset, verdict}
-use Rattle.rules.specs.Events.{importing, exporting, resetting}
-use Rattle.rules.specs.Log.{Entry, event_of}
+use Rattle.rules.specs.Log.{Other, Entry, event_of}
 use Rattle.rules.specs.Replay.{answerless, after_line, idle, turn_on}
 use Rattle.rules.proofs.Ladder.{differ-is, differ-not, when_true}
 use Rattle.log_steps.proofs.Ends.{left_by}
-use Rattle.log_call.specs.declared.Event.{Event}
-use Rattle.log_call.specs.declared.Event.TheVariants as event
+use Rattle.std.specs.Prelude.{Some, None}
+use Rattle.events.specs.declared.Event.{Event}
+use Rattle.events.specs.declared.Event.TheVariants as event
+use Rattle.events.specs.Occurring.{occurring}
 use Rattle.log_call.specs.Event.{recorded}
 
 -- ---- the form
 
-module _ (block list : List ℕ) where
-  pub long-event : (length block ≡ 1 → ⊥) → (k : ℕ) → recorded k event.Nothing ≡ event_of k block list
-  unfolding recorded event_of
-  long-event n k = differ-is _ _ _ _ _ n refl
+module _ (k : ℕ) (block list : List ℕ) (one : length block ≡ 1) where
+  pub import-is : get_or block 0 0 ≡ 1 → length list ≡ 4 → event_of k block list ≡ Entry k (Import (word list 0) (word list 2))
+  unfolding event_of all_of when byte
+  import-is f n = sym (differ-not _ _ _ _ _ one (rw (f, n) refl))
 
-  module _ (one : length block ≡ 1) where
-    module _ (first : byte block 0 ≡ 1) where
-      pub short-import : (length list ≡ 4 → ⊥) → (k : ℕ) → recorded k event.Nothing ≡ event_of k block list
-      unfolding recorded event_of all_of when
-      short-import n k = differ-not _ _ _ _ _ one (rw (first, ne_eqb _ _ n) refl)
+  pub export-is : get_or block 0 0 ≡ 2 → length list ≡ 2 → event_of k block list ≡ Entry k (Export (word list 0))
+  unfolding event_of all_of when byte
+  export-is f n = sym (differ-not _ _ _ _ _ one (rw (f, n) refl))
 
-      pub is-import : length list ≡ 4 → (a v : ℕ) → a ≡ word list 0 → v ≡ word list 2 → (k : ℕ) → recorded k (event.Import a v) ≡ event_of k block list
-      unfolding recorded event_of all_of when
-      is-import n a v i j k = differ-not _ _ _ _ _ one (rw (first, n, i, j) refl)
+  pub reset-is : get_or block 0 0 ≡ 3 → length list ≡ 0 → event_of k block list ≡ Entry k Reset
+  unfolding event_of all_of when byte
+  reset-is f n = sym (differ-not _ _ _ _ _ one (rw (f, n) refl))
 
-    module _ (first : byte block 0 ≡ 2) where
-      pub short-export : (length list ≡ 2 → ⊥) → (k : ℕ) → recorded k event.Nothing ≡ event_of k block list
-      unfolding recorded event_of all_of when
-      short-export n k = differ-not _ _ _ _ _ one (rw (first, ne_eqb _ _ n) refl)
+  pub no-import : get_or block 0 0 ≡ 1 → (length list ≡ 4 → ⊥) → event_of k block list ≡ Other
+  unfolding event_of all_of when byte
+  no-import f n = sym (differ-not _ _ _ _ _ one (rw (f, ne_eqb _ _ n) refl))
 
-      pub is-export : length list ≡ 2 → (a : ℕ) → a ≡ word list 0 → (k : ℕ) → recorded k (event.Export a) ≡ event_of k block list
-      unfolding recorded event_of all_of when
-      is-export n a i k = differ-not _ _ _ _ _ one (rw (first, n, i) refl)
+  pub no-export : get_or block 0 0 ≡ 2 → (length list ≡ 2 → ⊥) → event_of k block list ≡ Other
+  unfolding event_of all_of when byte
+  no-export f n = sym (differ-not _ _ _ _ _ one (rw (f, ne_eqb _ _ n) refl))
 
-    pub no-event : (byte block 0 ≡ 1 → ⊥) → (byte block 0 ≡ 2 → ⊥) → (byte block 0 ≡ 3 → ⊥) → (k : ℕ) → recorded k event.Nothing ≡ event_of k block list
-    unfolding recorded event_of all_of when
-    no-event x y z k = differ-not _ _ _ _ _ one (rw (ne_eqb _ _ x, ne_eqb _ _ y, ne_eqb _ _ z) refl)
+  pub no-reset : get_or block 0 0 ≡ 3 → (length list ≡ 0 → ⊥) → event_of k block list ≡ Other
+  unfolding event_of all_of when byte
+  no-reset f n = sym (differ-not _ _ _ _ _ one (rw (f, ne_eqb _ _ n) refl))
 
-    module _ (first : byte block 0 ≡ 3) where
-      pub long-reset : (length list ≡ 0 → ⊥) → (k : ℕ) → recorded k event.Nothing ≡ event_of k block list
-      unfolding recorded event_of all_of when
-      long-reset n k = differ-not _ _ _ _ _ one (rw (first, ne_eqb _ _ n) refl)
+  pub no-event : (get_or block 0 0 ≡ 1 → ⊥) → (get_or block 0 0 ≡ 2 → ⊥) → (get_or block 0 0 ≡ 3 → ⊥) → event_of k block list ≡ Other
+  unfolding event_of all_of when byte
+  no-event x y z = sym (differ-not _ _ _ _ _ one (rw (ne_eqb _ _ x, ne_eqb _ _ y, ne_eqb _ _ z) refl))
 
-      pub is-reset : length list ≡ 0 → (k : ℕ) → recorded k event.Reset ≡ event_of k block list
-      unfolding recorded event_of all_of when
-      is-reset n k = differ-not _ _ _ _ _ one (rw (first, n) refl)
+-- a block of another length
+pub no_block : (k : ℕ) (block list : List ℕ) → (length block ≡ 1 → ⊥) → event_of k block list ≡ Other
+unfolding event_of
+no_block k block list n = sym (differ-is _ _ _ _ _ n refl)
+
+pub ruleset forms = (import-is, export-is, reset-is, no-import, no-export, no-reset, no-event, no_block)
 
 -- ---- what it does
 
@@ -66,20 +66,13 @@ module _ (t : Tables) (e : ℕ) where
   unfolding turn_on
   applied-is c u i = ap (λ (x : Tables). record { applied = true; tables = x }) i ∙ sym (when_true _ _ _ (eq-eqb e e refl))
 
-  module _ (v : Event) where
-    pub nothing-done : v ≡ event.Nothing → idle t ≡ turn_on t e (recorded e v)
-    unfolding recorded turn_on
-    nothing-done told = rw told refl
+  -- there was none
+  pub nothing-done : idle t ≡ turn_on t e (recorded e None)
+  unfolding recorded turn_on
+  nothing-done = refl
 
-    module _ (o : Outcome) where
-      pub import-done : (a n : ℕ) → v ≡ event.Import a n → o ≡ outcome t [] (importing t a n) → record { applied = true; tables = o.tables } ≡ turn_on t e (recorded e v)
-      unfolding recorded after_line answerless verdict
-      import-done a n told i = rw told (applied-is (Import a n) o.tables (left_by t [] _ o i))
-
-      pub export-done : (a : ℕ) → v ≡ event.Export a → o ≡ outcome t [] (exporting t a) → record { applied = true; tables = o.tables } ≡ turn_on t e (recorded e v)
-      unfolding recorded after_line answerless verdict
-      export-done a told i = rw told (applied-is (Export a) o.tables (left_by t [] _ o i))
-
-      pub reset-done : v ≡ event.Reset → o ≡ outcome t [] (resetting t) → record { applied = true; tables = o.tables } ≡ turn_on t e (recorded e v)
-      unfolding recorded after_line answerless verdict
-      reset-done told i = rw told (applied-is Reset o.tables (left_by t [] _ o i))
+  pub event-done : (o : Outcome) (v : Event) → o ≡ outcome t [] (occurring t v) → record { applied = true; tables = o.tables } ≡ turn_on t e (recorded e (Some v))
+  unfolding recorded occurring after_line answerless verdict
+  event-done o (event.Import a n) i = applied-is (Import a n) o.tables (left_by t [] _ o i)
+  event-done o (event.Export a) i = applied-is (Export a) o.tables (left_by t [] _ o i)
+  event-done o event.Reset i = applied-is Reset o.tables (left_by t [] _ o i)

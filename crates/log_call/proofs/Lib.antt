@@ -1,3 +1,4 @@
+pub mod Supply
 pub mod Commands
 pub mod Events
 pub mod Lines

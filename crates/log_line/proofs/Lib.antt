@@ -1,7 +1,6 @@
 pub mod Text
-pub mod Table
 pub mod Numbers
-pub mod Digits
+pub mod Hexed
 pub mod Forms
 pub mod Feeds
 pub mod Ways

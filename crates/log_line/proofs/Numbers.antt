@@ -3,7 +3,7 @@ use Prim.Native.Nat.{ℕ, suc, ◌+◌, ◌*◌, ◌<◌, ◌≤◌}
 use native.Mathlib.Omega.{arith}
 use mathlib.Core.Path.{◌≡◌, refl, sym, ap, ◌∙◌}
 use mathlib.Core.Logic.{◌≢◌}
-use mathlib.Core.Bool.{Bool}
+use mathlib.Core.Bool.{Bool, true, false}
 use mathlib.Core.List.{List, [], ◌∷◌}
 use lib.ListN.{length, get_or, take, drop}
 use lib.Dec.{eqb, ltb}
@@ -13,6 +13,9 @@ use Rattle.rules.specs.Choice.{when}
 use Rattle.rules.specs.Bytes.{byte}
 use Rattle.rules.specs.Log.{TAB, first_of, before, digit, number_from, number_of}
 use Rattle.rules.proofs.Ladder.{on, either, when_true, when_false}
+use Rattle.std.specs.Prelude.{Some, None}
+use Rattle.std.specs.List.{starts_with}
+use Rattle.std.proofs.lemmas.Bool.Decides.{nat_tests}
 use Rattle.log_line.specs.Fields.{Numbered, number_to}
 use Rattle.log_line.proofs.Text.{first-mark, first_next, one_at, none-at}
 use Rattle.log_line.proofs.Feeds.{tab-none}
@@ -54,24 +57,26 @@ module _ (b : ℕ) (s : List ℕ) (n : ℕ) where
 
 -- ---- the first digit
 
-pub no_text : (s : List ℕ) → length s ≡ 0 → number_to s ≡ 0
-unfolding number_to first_of when
-no_text [] e = refl
-no_text (x ∷ xs) e = absurd (omega arith)
+first-zero : (x : ℕ) (xs : List ℕ) → starts_with eqb (x ∷ xs) (code "0" ∷ []) ≡ true → x ≡ code "0"
+first-zero x xs e = grind (arith, nat_tests)
 
 -- "no leading zero"
-pub zero-first : (s : List ℕ) → get_or s 0 0 ≡ code "0" → number_to s ≡ 0
+pub zero-first : (s : List ℕ) → starts_with eqb s (code "0" ∷ []) ≡ true → Numbered s None
 unfolding number_to
-zero-first [] e = absurd (omega arith)
+zero-first [] e = unfold first_of when in refl
 zero-first (x ∷ xs) e =
+    let z = first-zero x xs e in
     let m : x ≢ TAB = λ q. omega arith in
-    on (λ (k : ℕ). k ≡ 0) _ (λ _. refl) (λ _. rw (first_next TAB x xs m) (unfold number_of byte in when_true _ _ _ (eq-eqb _ _ e)))
+    on (λ (k : ℕ). k ≡ 0) _ (λ _. refl) (λ _. rw (first_next TAB x xs m) (unfold number_of byte in when_true _ _ _ (eq-eqb _ _ z)))
 
-pub other-first : (s : List ℕ) → (length s ≡ 0 → ⊥) → (get_or s 0 0 ≡ code "0" → ⊥) → number_to s ≡ digits_to s 0
+other-first : (s : List ℕ) → starts_with eqb s (code "0" ∷ []) ≡ false → number_to s ≡ digits_to s 0
 unfolding number_to digits_to number_of byte
-other-first [] n m = absurd (n refl)
-other-first (x ∷ xs) n m = rw (ne_eqb _ _ first) (unfold when in refl)
+other-first [] e = unfold first_of when number_from in refl
+other-first (x ∷ xs) e = rw (ne_eqb _ _ first) (unfold when in refl)
   where
+    m : x ≢ code "0"
+    m = grind (arith, nat_tests)
+
     first : get_or (before TAB (x ∷ xs)) 0 0 ≢ code "0"
     first q =
         either x TAB
@@ -87,35 +92,39 @@ pub record Counting (s : List ℕ) (n i : ℕ) : Type 0 where
   pub first : first_of TAB s ≡ i + first_of TAB (drop i s)
   pub whole : number_to s ≡ digits_to (drop i s) n
 
-pub none : (s : List ℕ) (v e : ℕ) → v ≡ 0 → number_to s ≡ 0 → Numbered s v e
-none s v e z w = record { value-is = z ∙ sym w; parted = λ n. absurd (n z) }
-
-pub starts : (s : List ℕ) → (length s ≡ 0 → ⊥) → (get_or s 0 0 ≡ code "0" → ⊥) → Counting s 0 0
-starts s n m = record { inside = omega arith; low = omega arith; first = omega arith; whole = other-first s n m }
+pub starts : (s : List ℕ) → starts_with eqb s (code "0" ∷ []) ≡ false → Counting s 0 0
+starts s e = record { inside = omega arith; low = omega arith; first = omega arith; whole = other-first s e }
 
 module _ (s : List ℕ) (n i : ℕ) (inv : Counting s n i) where
-  pub ended : i ≡ length s → number_to s ≡ 0
-  ended e = inv.whole ∙ rw (none-at s i e) (no-digits n)
+  pub ended : length s ≤ i → Numbered s None
+  ended l =
+      let e : i ≡ length s = omega (arith, inv.inside) in inv.whole ∙ rw (none-at s i e) (no-digits n)
 
   module _ (h : i < length s) where
-    pub found : get_or s i 0 ≡ TAB → Numbered s n i
-    found e =
+    number_is : get_or s i 0 ≡ TAB → number_to s ≡ n
+    number_is e = inv.whole ∙ rw (one_at s i h) (at-tab _ _ n e)
+
+    pub found : get_or s i 0 ≡ TAB → (n ≡ 0 → ⊥) → Numbered s (Some (record { value = n; end = i }))
+    found e some =
         let f : first_of TAB (drop i s) ≡ 0 = rw (one_at s i h) (first-mark TAB _ _ e) in
-        let v : number_to s ≡ n = inv.whole ∙ rw (one_at s i h) (at-tab _ _ n e) in
-        record { value-is = sym v; parted = λ _. record { first = omega (arith, inv.first); inside = h } }
+        record { value-is = sym (number_is e); some = some; parted = record { first = omega (arith, inv.first); inside = h } }
+
+    -- zero is no number
+    pub zero : get_or s i 0 ≡ TAB → n ≡ 0 → Numbered s None
+    zero e z = number_is e ∙ z
 
     module _ (d : ℕ) (is : d ≡ digit (get_or s i 0)) where
       here : get_or s i 0 ≢ TAB → number_to s ≡ when (ltb 9 d) 0 (when (ltb 999999999 (n * 10 + d)) 0 (digits_to (drop (i + 1) s) (n * 10 + d)))
       here m = inv.whole ∙ rw (one_at s i h, is) (at-digit _ _ n m)
 
-      pub no_digit : 9 < d → (get_or s i 0 ≡ TAB → ⊥) → number_to s ≡ 0
+      pub no_digit : 9 < d → (get_or s i 0 ≡ TAB → ⊥) → Numbered s None
       no_digit l m = here m ∙ when_true _ _ _ (lt-ltb _ _ l)
 
       module _ (small : d ≤ 9) where
         no-tab : get_or s i 0 ≢ TAB
         no-tab e = omega (arith, is, ap digit e, tab-none)
 
-        pub too_large : 999999999 < n * 10 + d → number_to s ≡ 0
+        pub too_large : 999999999 < n * 10 + d → Numbered s None
         too_large l = here no-tab ∙ when_false _ _ _ (le-ltb _ _ small) ∙ when_true _ _ _ (lt-ltb _ _ l)
 
         pub goes_on : n * 10 + d ≤ 999999999 → Counting s (n * 10 + d) (i + 1)

@@ -10,15 +10,12 @@ use lib.Seq.{drop-drop}
 use lib.Dec.{ltb}
 use borrow.Author.Tests.{eq-eqb, ne_eqb, ltb-false}
 use Rattle.rules.specs.Choice.{when}
-use Rattle.rules.specs.Log.{TAB, LINE-FEED, first_of, before, digit, hexed, bytes_of, Line, Other as OtherForm, entry_of}
+use Rattle.rules.specs.Log.{TAB, LINE-FEED, first_of, before, digit, hexed, bytes_of, Line, Other, entry_of}
 use Rattle.rules.proofs.Ladder.{either, when_true, when_false, never}
 use Rattle.rules.proofs.Replaying.{first-inside}
 use Rattle.log_line.specs.Rungs.{after_host, here}
-use Rattle.log_line.specs.Fields.{Bytes, hexed_to, Decoded}
-use Rattle.log_line.specs.declared.Field.{Field}
-use Rattle.log_line.specs.declared.Field.TheVariants.{To, Bad}
-use Rattle.log_line.specs.declared.Read.TheVariants.{Entry}
-use Rattle.log_line.specs.Read.{meant, Within}
+use Rattle.log_line.specs.Fields.{Bytes, hexed_to}
+use Rattle.log_line.specs.Read.{Held}
 use Rattle.log_line.proofs.Text.{left, first-nil, first-mark, first_next, sooner, first-from, tail}
 use Rattle.log_line.proofs.Feeds.{other-here, here-from, feed-none, tab-none, tab-other, tab-kept, before-kept, tab-inside, by-tab}
 
@@ -69,23 +66,23 @@ unhexed m s n e = sym (when_false _ _ _ (ne_eqb _ _ n)) ∙ e
 -- ---- command bytes
 
 module _ (k h : ℕ) (s : List ℕ) where
-  one_field : first_of TAB (before LINE-FEED s) ≡ length (before LINE-FEED s) → after_host k h (before LINE-FEED s) ≡ OtherForm
+  one_field : first_of TAB (before LINE-FEED s) ≡ length (before LINE-FEED s) → after_host k h (before LINE-FEED s) ≡ Other
   unfolding after_host
   one_field e = when_true _ _ _ (eq-eqb _ _ e)
 
-  bad-bytes : hexed_to TAB s ≡ false → first_of TAB s < first_of LINE-FEED s → after_host k h (before LINE-FEED s) ≡ OtherForm
+  bad-bytes : hexed_to TAB s ≡ false → first_of TAB s < first_of LINE-FEED s → after_host k h (before LINE-FEED s) ≡ Other
   unfolding after_host
   bad-bytes e i =
       let n : first_of TAB s ≢ length s = λ q. omega (arith, first-inside LINE-FEED s) in
       let f : hexed (before TAB (before LINE-FEED s)) ≡ false = rw (before-kept s i) (unhexed TAB s n e) in
       when_false _ _ _ (ne_eqb _ _ (tab-inside s i)) ∙ when_false _ _ _ f
 
-  no_bytes : hexed_to TAB s ≡ false → OtherForm ≡ here (after_host k h) s
-  no_bytes e = other-here (after_host k h) s (by-tab (after_host k h (before LINE-FEED s) ≡ OtherForm) s (bad-bytes e) one_field)
+  no_bytes : hexed_to TAB s ≡ false → Other ≡ here (after_host k h) s
+  no_bytes e = other-here (after_host k h) s (by-tab (after_host k h (before LINE-FEED s) ≡ Other) s (bad-bytes e) one_field)
 
 -- the last field, with the command's bytes
 given_by : ℕ → ℕ → List ℕ → List ℕ → Line
-given_by k h block s = when (hexed s) (entry_of k h block (bytes_of s)) OtherForm
+given_by k h block s = when (hexed s) (entry_of k h block (bytes_of s)) Other
 
 module _ (s out : List ℕ) (c : ℕ) (read : Bytes TAB s out c) where
   before-feed : first_of TAB s < first_of LINE-FEED s
@@ -110,7 +107,7 @@ module _ (s out : List ℕ) (c : ℕ) (read : Bytes TAB s out c) where
 -- ---- parameter bytes
 
 module _ (k h : ℕ) (block s : List ℕ) where
-  no-given : hexed_to LINE-FEED s ≡ false → OtherForm ≡ here (given_by k h block) s
+  no-given : hexed_to LINE-FEED s ≡ false → Other ≡ here (given_by k h block) s
   unfolding here hexed_to given_by
   no-given e =
       either (first_of LINE-FEED s) (length s) (λ q. sym (when_true _ _ _ (eq-eqb _ _ q)))
@@ -124,46 +121,33 @@ module _ (k h : ℕ) (block s : List ℕ) where
 
 -- ---- both, from a place of a text on
 
-module _ (t : List ℕ) (at : ℕ) (part : List ℕ) (re : part ≡ drop at t) (r : Field) (out : List ℕ) (d : Decoded TAB part out r) where
-  pub no-command : (k h : ℕ) → r ≡ Bad → OtherForm ≡ here (after_host k h) (drop at t)
-  unfolding Decoded
-  no-command k h e = no_bytes k h (drop at t) (rw (re, e) at d)
+module _ (t : List ℕ) (at : ℕ) (part : List ℕ) (re : part ≡ drop at t) where
+  pub no-command : hexed_to TAB part ≡ false → (k h : ℕ) → Other ≡ here (after_host k h) (drop at t)
+  no-command e k h = no_bytes k h (drop at t) (rw re at e)
 
-  module _ (c : ℕ) (is : r ≡ To c) where
-    command : Bytes TAB (drop at t) out c
-    unfolding Decoded
-    command = rw (re, is) at d
+  module _ (out : List ℕ) (c : ℕ) (command : Bytes TAB part out c) (part2 : List ℕ) (re2 : part2 ≡ drop (at + c + 1) t) where
+    commanded : Bytes TAB (drop at t) out c
+    commanded = rw re at command
 
-    pub command-there : at + c + 1 ≤ length t
-    command-there = let i = command.parted.inside in omega (arith, length-drop at t)
+    behind : drop (c + 1) (drop at t) ≡ part2
+    behind = let e : at + (c + 1) ≡ at + c + 1 = omega arith in drop-drop (c + 1) at t ∙ ap (λ (i : ℕ). drop i t) e ∙ sym re2
 
-    module _ (part2 : List ℕ) (re2 : part2 ≡ drop (at + c + 1) t) (r2 : Field) (out2 : List ℕ) (d2 : Decoded LINE-FEED part2 out2 r2) where
-      behind : drop (c + 1) (drop at t) ≡ part2
-      behind = let e : at + (c + 1) ≡ at + c + 1 = omega arith in drop-drop (c + 1) at t ∙ ap (λ (i : ℕ). drop i t) e ∙ sym re2
+    read-on : (k h : ℕ) → here (given_by k h (bytes_of (before TAB (drop at t)))) part2 ≡ here (after_host k h) (drop at t)
+    read-on k h = rw behind at (with-command (drop at t) out c commanded k h)
 
-      read-on : (k h : ℕ) → here (given_by k h (bytes_of (before TAB (drop at t)))) part2 ≡ here (after_host k h) (drop at t)
-      read-on k h = rw behind at (with-command (drop at t) out c command k h)
+    pub no-parameters : hexed_to LINE-FEED part2 ≡ false → (k h : ℕ) → Other ≡ here (after_host k h) (drop at t)
+    no-parameters e k h = no-given k h _ part2 e ∙ read-on k h
 
-      pub no-parameters : (k h : ℕ) → r2 ≡ Bad → OtherForm ≡ here (after_host k h) (drop at t)
-      unfolding Decoded
-      no-parameters k h e = no-given k h _ part2 (rw e at d2) ∙ read-on k h
+    module _ (out2 : List ℕ) (p : ℕ) (parameters : Bytes LINE-FEED part2 out2 p) where
+      line-ends : at + c + 1 + p < length t
+      line-ends = let i = parameters.parted.inside in omega (arith, length-drop (at + c + 1) t, ap length re2)
 
-      module _ (p : ℕ) (is2 : r2 ≡ To p) where
-        parameters : Bytes LINE-FEED part2 out2 p
-        unfolding Decoded
-        parameters = rw is2 at d2
+      pub both-fields : (k h : ℕ) → entry_of k h (take (c / 2) out) (take (p / 2) out2) ≡ here (after_host k h) (drop at t)
+      both-fields k h = rw commanded.decoded (some-given k h (bytes_of (before TAB (drop at t))) part2 out2 p parameters ∙ read-on k h)
 
-        pub line-ends : at + c + 1 + p < length t
-        line-ends = let i = parameters.parted.inside in omega (arith, length-drop (at + c + 1) t, ap length re2)
-
-        pub both-fields : (k h : ℕ) → meant (Entry k h (c / 2) (p / 2) (at + c + 1 + p)) out out2 ≡ here (after_host k h) (drop at t)
-        unfolding meant
-        both-fields k h = rw command.decoded (some-given k h (bytes_of (before TAB (drop at t))) part2 out2 p parameters ∙ read-on k h)
-
-        pub both-held : (k h : ℕ) → length t ≤ 2 * length out + 1 → length t ≤ 2 * length out2 + 1 → Within (Entry k h (c / 2) (p / 2) (at + c + 1 + p)) at t out out2
-        unfolding Within
-        both-held k h x y =
-            let e : first_of LINE-FEED (drop at t) ≡ c + 1 + p
-            = first-from LINE-FEED (c + 1) (drop at t) (command-inside (drop at t) out c command) ∙ rw (behind, ← parameters.parted.first) refl in
-            let i = line-ends in
-            record { block_held = omega arith; list_held = omega arith; ends = omega arith; inside = i }
+      pub both-held : length t ≤ 2 * length out + 1 → length t ≤ 2 * length out2 + 1 → Held (c / 2) (p / 2) (at + c + 1 + p) at t out out2
+      both-held x y =
+          let e : first_of LINE-FEED (drop at t) ≡ c + 1 + p
+          = first-from LINE-FEED (c + 1) (drop at t) (command-inside (drop at t) out c commanded) ∙ rw (behind, ← parameters.parted.first) refl in
+          let i = line-ends in
+          record { block_held = omega arith; list_held = omega arith; ends = omega arith; inside = i }

@@ -13,8 +13,8 @@ use Rattle.rules.specs.Log.{LINE-FEED, first_of, before, line_of}
 use Rattle.rules.proofs.Ladder.{either, when_true, when_false}
 use Rattle.rules.proofs.Replaying.{first-inside}
 use Rattle.log_line.specs.Rungs.{here, first_line}
-use Rattle.log_line.specs.declared.Read.{Read}
-use Rattle.log_line.specs.declared.Read.TheVariants.{Other, Entry}
+use Rattle.std.specs.Prelude.{Option, Some, None}
+use Rattle.log_line.specs.declared.Entry.{Entry}
 use Rattle.log_line.specs.Read.{Room, Within}
 use Rattle.log_line.proofs.Text.{first_taken, none-taken}
 
@@ -53,10 +53,9 @@ module _ (s : List ℕ) (n : ℕ) (is : n ≡ min (length s) 513) where
       by true e = feed-reached (ltb-true _ _ e)
       by false e = feed-beyond (ltb-false _ _ e)
 
-  pub within-reach : (r : Read) (b l : List ℕ) → Within r 0 (take n s) b l → Within r 0 s b l
-  unfolding Within
-  within-reach Other b l w = tt
-  within-reach (Entry k h p q e) b l w =
+  pub within-reach : (r : Option Entry) (b l : List ℕ) → Within r 0 (take n s) b l → Within r 0 s b l
+  within-reach None b l w = tt
+  within-reach (Some r) b l w =
       let f : first_of LINE-FEED s ≡ first_of LINE-FEED (take n s) = by (ltb (first_of LINE-FEED s) n) refl in
       record { block_held = w.block_held; list_held = w.list_held; ends = w.ends ∙ omega arith; inside = omega (arith, w.inside, reached, inside) }
     where

@@ -1,13 +1,12 @@
 -- What is read of a line, as a line of the rules. Assumes nothing.
-use Rattle.std.specs.Prelude.{ℕ, ◌+◌, ◌*◌, ◌<◌, ◌≤◌, ◌≡◌, List, length, take, drop}
-use Rattle.rules.specs.Log.{LINE-FEED, first_of, Line, Other as OtherForm, entry_of}
-use Rattle.log_line.specs.declared.Read.{Read}
-use Rattle.log_line.specs.declared.Read.TheVariants.{Other, Entry}
+use Rattle.std.specs.Prelude.{ℕ, ◌+◌, ◌*◌, ◌<◌, ◌≤◌, ◌≡◌, List, Option, Some, None, length, take, drop}
+use Rattle.rules.specs.Log.{LINE-FEED, first_of, Line, Other, entry_of}
+use Rattle.log_line.specs.declared.Entry.{Entry}
 
 -- the bytes stand at the front of the two rooms
-unfoldable pub meant : Read → List ℕ → List ℕ → Line
-meant Other block list = OtherForm
-meant (Entry k h n m e) block list = entry_of k h (take n block) (take m list)
+abbrev pub meant : Option Entry → List ℕ → List ℕ → Line
+meant None block list = Other
+meant (Some e) block list = entry_of e.number e.host (take e.block block) (take e.list list)
 
 -- the rooms hold all the bytes that a text can write, one of two digits each; the text goes on at a place
 pub record Room (at : ℕ) (s block list : List ℕ) : Type 0 where
@@ -22,6 +21,6 @@ pub record Held (n m e at : ℕ) (s block list : List ℕ) : Type 0 where
   pub ends : e ≡ at + first_of LINE-FEED (drop at s)
   pub inside : e < length s
 
-unfoldable pub Within : Read → ℕ → List ℕ → List ℕ → List ℕ → Type 0
-Within Other at s block list = Unit {0}
-Within (Entry k h n m e) at s block list = Held n m e at s block list
+abbrev pub Within : Option Entry → ℕ → List ℕ → List ℕ → List ℕ → Type 0
+Within None at s block list = Unit {0}
+Within (Some e) at s block list = Held e.block e.list e.end at s block list

@@ -11,9 +11,12 @@ use Rattle.rules.specs.Listing.{read_status}
 use Rattle.rules.specs.Mode.{mode_sense}
 use Rattle.rules.specs.Command.{act, steps_of}
 use Rattle.rules.proofs.Sequences.{outcome-leaves}
+use mathlib.Core.Logic.{◌⊎◌, inl, inr}
 use Rattle.operation.specs.declared.Operation.{Operation}
+use Rattle.operation.specs.declared.Operation.TheVariants.{TestUnitReady, ReadElementStatus, ModeSense}
 use Rattle.operation.specs.Meaning.{meaning}
-use Rattle.admission.specs.declared.Admission.{Admission}
+use Rattle.std.specs.Prelude.{Result}
+use Rattle.admission.specs.declared.Barrier.{Barrier}
 use Rattle.admission.specs.Admitting.{admission, on_admission}
 use Rattle.admission.proofs.Admissions.{admission-is}
 
@@ -33,22 +36,21 @@ module _ (t : Tables) (h : ℕ) (block : List ℕ) where
   unfolding request_sense after changes change in_head when
   sense-cleared n head' e = rw (n, e) refl
 
-  -- a listing and mode pages leave what GOOD leaves
-  pub listed : after (good h []) t ≡ after (read_status t h block) t
-  unfolding after good read_status
-  listed = refl
-
-  pub paged : after (good h []) t ≡ after (mode_sense t h block) t
-  unfolding after good mode_sense
-  paged = refl
-
 module _ (op : Operation) (t : Tables) (h : ℕ) (block list : List ℕ) (u : Tables) where
-  -- the command that was chosen
-  pub acts : (o : Operation) → op ≡ o → u ≡ after (act (meaning o) t h block list) t → u ≡ after (act (meaning op) t h block list) t
-  acts o told e = rw told e
+  -- the command that was chosen, by its block
+  pub acts : (o : Operation) → op ≡ o → (given : List ℕ) → given ≡ block → u ≡ after (act (meaning o) t h given list) t
+      → u ≡ after (act (meaning op) t h block list) t
+  acts o told given is e = rw (told, ← is) e
+
+  -- a listing and mode pages leave what GOOD leaves
+  pub clears : (op ≡ TestUnitReady) ⊎ ((op ≡ ReadElementStatus) ⊎ (op ≡ ModeSense)) → u ≡ after (good h []) t → u ≡ after (act (meaning op) t h block list) t
+  unfolding act meaning after good read_status mode_sense
+  clears (inl e) is = rw e is
+  clears (inr (inl e)) is = rw e is
+  clears (inr (inr e)) is = rw e is
 
   -- the answer g of steps 1 to 4
-  pub admits : (g : Admission) → g ≡ admission op t.head t.elements h block list → (a : Admission) → g ≡ a
+  pub admits : (g : Result (Unit {0}) Barrier) → g ≡ admission op t.head t.elements h block list → (a : Result (Unit {0}) Barrier) → g ≡ a
       → u ≡ after (on_admission t h a (act (meaning op) t h block list)) t → u ≡ after (steps_of (meaning op) t h block list) t
   unfolding steps_of
   admits g is a told e = e ∙ ap (λ (v : Verdict). after v t) (sym (admission-is op t h block list g is (act (meaning op) t h block list) ∙ rw told refl))

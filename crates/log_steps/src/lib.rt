@@ -1,8 +1,8 @@
 // A recorded command: steps 1 to 8 as for one that is sent, but "answers aren't kept", so none is made.
 #![tactic(auto)]
 
-ghost use Rattle.std.specs.Prelude.{◌≡◌, List, ℕ, ◌≤◌, length};
-ghost use Rattle.rules.specs.Tables.{head_size, hosts, lent, searching, Rest};
+ghost use Rattle.std.specs.Prelude.{◌≡◌, List, ℕ};
+ghost use Rattle.rules.specs.Tables.{lent, searching, Rest};
 ghost use Rattle.rules.specs.Order.{after};
 ghost use Rattle.rules.specs.Sense.{request_sense};
 ghost use Rattle.rules.specs.Command.{act, steps_of};
@@ -12,72 +12,90 @@ ghost use Rattle.pages.specs.Pages.{stock};
 ghost use Rattle.listing.specs.Counting.{Listable};
 ghost use Rattle.log_steps.specs.Recorded.{Recorded, Given};
 
-use admission::Admission;
+use admission::Barrier;
+use layout::{HEAD_SIZE, SEARCH_SIZE};
+use moves::Carry;
 use operation::Operation;
 use order::Cause;
-use tables::Range;
+use tables::{Fixed, Host, Range};
 
 // REQUEST SENSE: "What was told is cleared, allocation 0 included."
-fn forget(head: &mut [u8], host: u8)
-    requires head_size_in_bounds { head_size ≤ length head.old }
-    requires host_le_hosts { host ≤ hosts }
-    ensures { (elements : List ℕ) (rest : Rest) (block : List ℕ) → lent head.new elements rest ≡ after (request_sense (lent head.old elements rest) host block) (lent head.old elements rest) }
+fn forget(head: &mut [u8; HEAD_SIZE], host: Host)
+    ensures { (elements : List ℕ) (rest : Rest) (block : List ℕ) → lent head.new elements rest ≡ after (request_sense (lent head.old elements rest) host.number block) (lent head.old elements rest) }
 {
     if sense::tells_attention(head, host) {
-        tables::head::attend(head, host, 0, 0);
+        tables::head::attend(head, host.number, 0, 0);
         return;
     }
-    tables::head::wipe(head, host);
+    tables::head::wipe(head, host.number);
 }
 
 // From step 5 on: the one place that chooses the recorded command. Of a listing and of mode pages only the cleared sense is left; a search goes on.
-fn command<'a>(
+fn command(
     op: Operation,
     runs: [Range; 4],
-    head: &mut [u8],
+    head: &mut [u8; HEAD_SIZE],
     elements: &mut [u8],
-    tags: &'a [u8],
-    generations: &'a [u8],
-    masks: &'a [u8],
-    search: &mut [u8],
-    host: u8,
+    fixed: Fixed<'_>,
+    search: &mut [u8; SEARCH_SIZE],
+    host: Host,
     block: &[u8],
     parameters: &[u8],
 )
-    requires { Recorded op runs head.old elements.old tags.now search.old host block.now }
-    ensures { (rest : Rest) → Given rest tags.now generations.now masks.now → Listable (meant runs) (stock elements.old rest.tags rest.blank) → lent head.new elements.new (searching rest search.new) ≡ after (act (meaning op) (lent head.old elements.old (searching rest search.old)) host block.now parameters.now) (lent head.old elements.old (searching rest search.old)) }
+    requires { Recorded op runs head.old elements.old fixed search.old block.now }
+    ensures { (rest : Rest) → Given rest fixed.entry → Listable (meant runs) (stock elements.old rest.tags rest.blank) → lent head.new elements.new (searching rest search.new) ≡ after (act (meaning op) (lent head.old elements.old (searching rest search.old)) host.number block.now parameters.now) (lent head.old elements.old (searching rest search.old)) }
 {
     match op {
-        Operation::TestUnitReady => {
+        Operation::TestUnitReady | Operation::ReadElementStatus | Operation::ModeSense => {
             order::good(head, host);
         }
         Operation::RequestSense => forget(head, host),
         Operation::Reserve => {
-            holds::reserve(runs, head, elements, host, block, parameters);
+            holds::reserve(runs, head, elements, host, wire::whole(block), parameters);
         }
         Operation::Release => {
-            holds::release(head, elements, host, block);
+            holds::release(head, elements, host, wire::whole(block));
         }
         Operation::PreventAllow => {
-            holds::prevent_allow(head, host, block);
+            holds::prevent_allow(head, host, wire::whole(block));
         }
         Operation::MoveMedium => {
-            moves::move_medium(runs, head, elements, generations, masks, host, block);
+            moves::medium(
+                Carry::Move,
+                runs,
+                head,
+                elements,
+                fixed.generations,
+                fixed.masks,
+                host,
+                wire::whole(block),
+            );
         }
         Operation::ExchangeMedium => {
-            moves::exchange_medium(runs, head, elements, generations, masks, host, block);
-        }
-        Operation::ReadElementStatus => {
-            order::good(head, host);
-        }
-        Operation::ModeSense => {
-            order::good(head, host);
+            moves::medium(
+                Carry::Exchange,
+                runs,
+                head,
+                elements,
+                fixed.generations,
+                fixed.masks,
+                host,
+                wire::whole(block),
+            );
         }
         Operation::SendVolumeTag => {
-            search::send_volume_tag(head, search, host, block, parameters);
+            search::send_volume_tag(head, search, host, wire::whole(block), parameters);
         }
         Operation::RequestVolumeElementAddress => {
-            finding::go_on(runs, head, elements, tags, search, host, block);
+            finding::go_on(
+                runs,
+                head,
+                elements,
+                fixed.tags,
+                search,
+                host,
+                wire::whole(block),
+            );
         }
         Operation::Unknown => {
             order::refuse(head, host, Cause::InvalidOperation);
@@ -86,44 +104,32 @@ fn command<'a>(
 }
 
 // Steps 1 to 4, then the command.
-pub fn carry_out<'a>(
+pub fn carry_out(
     op: Operation,
     runs: [Range; 4],
-    head: &mut [u8],
+    head: &mut [u8; HEAD_SIZE],
     elements: &mut [u8],
-    tags: &'a [u8],
-    generations: &'a [u8],
-    masks: &'a [u8],
-    search: &mut [u8],
-    host: u8,
+    fixed: Fixed<'_>,
+    search: &mut [u8; SEARCH_SIZE],
+    host: Host,
     block: &[u8],
     parameters: &[u8],
 )
-    requires { Recorded op runs head.old elements.old tags.now search.old host block.now }
-    ensures { (rest : Rest) → Given rest tags.now generations.now masks.now → Listable (meant runs) (stock elements.old rest.tags rest.blank) → lent head.new elements.new (searching rest search.new) ≡ after (steps_of (meaning op) (lent head.old elements.old (searching rest search.old)) host block.now parameters.now) (lent head.old elements.old (searching rest search.old)) }
+    requires { Recorded op runs head.old elements.old fixed search.old block.now }
+    ensures { (rest : Rest) → Given rest fixed.entry → Listable (meant runs) (stock elements.old rest.tags rest.blank) → lent head.new elements.new (searching rest search.new) ≡ after (steps_of (meaning op) (lent head.old elements.old (searching rest search.old)) host.number block.now parameters.now) (lent head.old elements.old (searching rest search.old)) }
 {
     match admission::judge(op, head, elements, host, block, parameters) {
-        Admission::Pending => {
+        Err(Barrier::Pending) => {
             sense::attention::report(head, host);
         }
-        Admission::Held => {
+        Err(Barrier::Held) => {
             order::conflict(head, host);
         }
-        Admission::Faulty(at) => {
+        Err(Barrier::Faulty(at)) => {
             order::refuse(head, host, Cause::InvalidField(at));
         }
-        Admission::Open => command(
-            op,
-            runs,
-            head,
-            elements,
-            tags,
-            generations,
-            masks,
-            search,
-            host,
-            block,
-            parameters,
+        Ok(()) => command(
+            op, runs, head, elements, fixed, search, host, block, parameters,
         ),
     }
 }

@@ -89,7 +89,7 @@ module _ (head : List ℕ) (code : ℕ) where
 
   -- the header and the pages, as they are written one behind the other
   pub whole-made : (n : ℕ) → n ≡ length (mode_whole head code)
-      → (((((n - 1) ∷ 0 ∷ []) ++ (0 ∷ 0 ∷ [])) ++ first) ++ second) ++ third ≡ mode_whole head code
+      → ((((n - 1) ∷ 0 ∷ 0 ∷ 0 ∷ []) ++ first) ++ second) ++ third ≡ mode_whole head code
   unfolding mode_whole
   whole-made n e =
       let m : n - 1 ≡ 3 + length (mode_pages head code) = omega arith in

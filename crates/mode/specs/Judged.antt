@@ -1,12 +1,13 @@
 -- MODE SENSE as the code judges and writes it, and what each answer means in the rules. Assumes nothing.
-use Rattle.std.specs.Prelude.{ℕ, ◌+◌, ◌≤◌, min, ◌≡◌, false, List, [], ◌∷◌, length, ltb}
+use Rattle.std.specs.Prelude.{ℕ, ◌≡◌, ◌+◌, ◌≤◌, min, List, [], ◌∷◌, Result, Ok, Err, length, ltb}
 use Rattle.rules.specs.Choice.{when}
 use Rattle.rules.specs.Bytes.{cut}
-use Rattle.rules.specs.Tables.{head_size, hosts, Sense}
+use Rattle.rules.specs.Tables.{Sense}
 use Rattle.rules.specs.Order.{Verdict, Number, Done, GOOD}
-use Rattle.rules.specs.Mode.{these, none, paged, sought, mode_whole, no_answer}
-use Rattle.mode.specs.declared.Ruling.{Ruling}
-use Rattle.mode.specs.declared.Ruling.TheVariants as ruling
+use Rattle.rules.specs.Mode.{these, none, paged, sought, mode_whole}
+use Rattle.order.specs.declared.House.{House}
+use Rattle.order.specs.declared.House.TheVariants.{ShortBuffer}
+use Rattle.order.specs.Ending.{numbered}
 
 -- "Over 256 bytes before cutting"
 abbrev pub most : ℕ
@@ -25,23 +26,16 @@ unfoldable pub bytes_of : ℕ → ℕ → ℕ → ℕ
 bytes_of code page n = when (sought code page) (2 + n) 0
 
 -- what an answer means
-unfoldable pub meaning : List ℕ → ℕ → ℕ → Ruling → Verdict
-meaning head h code ruling.Short = Number 5
-meaning head h code (ruling.Tell n) = Done GOOD (cut n (mode_whole head code)) (Sense h 0 0 0 ∷ [])
+unfoldable pub meaning : List ℕ → ℕ → ℕ → Result ℕ House → Verdict
+meaning head h code (Err why) = Number (numbered why).number
+meaning head h code (Ok n) = Done GOOD (cut n (mode_whole head code)) (Sense h 0 0 0 ∷ [])
 
--- the bytes of an answer are there to be told, and there is room for them
-abbrev pub Within : List ℕ → ℕ → ℕ → Ruling → Type 0
-Within head code room ruling.Short = Unit {0}
-Within head code room (ruling.Tell n) = (n ≤ length (mode_whole head code)) × (n ≤ room)
+-- the bytes of an answer are there to be told, and there is room for them; else it is number 5
+abbrev pub Within : List ℕ → ℕ → ℕ → Result ℕ House → Type 0
+Within head code room (Err why) = why ≡ ShortBuffer
+Within head code room (Ok n) = (n ≤ length (mode_whole head code)) × (n ≤ room)
 
 -- house number 5 for an answer buffer with so much room, then what is told
-unfoldable pub mode_by : List ℕ → ℕ → ℕ → ℕ → Ruling
+unfoldable pub mode_by : List ℕ → ℕ → ℕ → ℕ → Result ℕ House
 mode_by head code allocation room =
-    when (ltb room (min allocation (length (mode_whole head code)))) ruling.Short (ruling.Tell (min allocation (length (mode_whole head code))))
-
--- what steps 1 to 4 have shown of a block of MODE SENSE
-pub record Asked (head : List ℕ) (host : ℕ) (block : List ℕ) : Type 0 where
-  pub head-long : head_size ≤ length head
-  pub host-known : host ≤ hosts
-  pub block-long : length block ≡ 6
-  pub answered : no_answer head block ≡ false
+    when (ltb room (min allocation (length (mode_whole head code)))) (Err ShortBuffer) (Ok (min allocation (length (mode_whole head code))))

@@ -2,16 +2,17 @@
 // made, and its first bytes are returned.
 #![tactic(auto)]
 
-ghost use Rattle.std.specs.Prelude.{◌≡◌, List, ℕ, ◌+◌, ◌*◌, ◌≤◌, ◌<◌, length};
+ghost use Rattle.std.specs.Prelude.{◌≡◌, false, List, ℕ, ◌+◌, ◌*◌, ◌≤◌, ◌<◌, Ok, length};
 ghost use Rattle.rules.specs.Bytes.{put};
-ghost use Rattle.rules.specs.Tables.{head_size, hosts, lent, Rest};
+ghost use Rattle.rules.specs.Tables.{lent, Rest};
 ghost use Rattle.rules.specs.Roster.{range, ranges};
 ghost use Rattle.rules.specs.Order.{outcome, fits};
 ghost use Rattle.rules.specs.Mode.{page_code, paged, assigned, assignments, members, capabilities as capabilitiesOf, sought as soughtOf, known_page, mode_whole, no_answer, mode_sense};
 ghost use Rattle.order.specs.Ending.{ended};
-ghost use Rattle.mode.specs.Judged.{kinds as kindsOf, piece, bytes_of, most, meaning, mode_by, Within, Asked};
+ghost use Rattle.mode.specs.Judged.{kinds as kindsOf, piece, bytes_of, most, meaning, mode_by, Within};
 
-use order::Reply;
+use order::{House, Reply, Status};
+use tables::Host;
 
 // "pages 1Dh, 1Eh, 1Fh and 3Fh for all"
 const ADDRESSES: u8 = 0x1D;
@@ -38,50 +39,31 @@ const THESE: u8 = 0x0E;
 
 const NONE: u8 = 0x00;
 
-// What MODE SENSE comes to: house number 5, or so many bytes.
-#[derive(Clone, Copy)]
-pub enum Ruling {
-    Short,
-    Tell(usize),
-}
-
 // ---- which pages
 
 // Byte 2 without the page control.
-fn page_code(block: &[u8]) -> u8
-    requires { length block.now ≡ 6 }
+fn page_code(block: &[u8; 6]) -> u8
     ensures { result ≡ page_code block.now }
 {
     block[2] % 64
 }
 
+#[tactic(auto, using(rules::proofs::Rungs::rungs), unfolding(rules::specs::Mode::known_page))]
 fn known(code: u8) -> bool
     ensures { result ≡ known_page code }
 {
-    if code == ADDRESSES {
-        return true;
-    }
-    if code == GEOMETRY {
-        return true;
-    }
-    if code == CAPABILITIES {
-        return true;
-    }
-    code == ALL_PAGES
+    matches!(code, ADDRESSES | GEOMETRY | CAPABILITIES | ALL_PAGES)
 }
 
 // A page is asked for by its code, or with all.
+#[tactic(auto, using(rules::proofs::Rungs::rungs), unfolding(rules::specs::Mode::sought))]
 fn sought(code: u8, page: u8) -> bool
     ensures { result ≡ soughtOf code page }
 {
-    if code == page {
-        return true;
-    }
-    code == ALL_PAGES
+    code == page || code == ALL_PAGES
 }
 
-fn transports(head: &[u8]) -> usize
-    requires { head_size ≤ length head.now }
+fn transports(head: &[u8; layout::HEAD_SIZE]) -> usize
     ensures value { result ≡ (range head.now 0).count }
     ensures upper_bound { result < 65536 }
 {
@@ -102,8 +84,7 @@ fn bytes_of(code: u8, page: u8, n: usize) -> usize
 }
 
 // The bytes of the whole answer.
-fn whole_bytes(head: &[u8], code: u8) -> usize
-    requires { head_size ≤ length head.now }
+fn whole_bytes(head: &[u8; layout::HEAD_SIZE], code: u8) -> usize
     ensures { result ≡ length (mode_whole head.now code) }
 {
     let a = bytes_of(code, ADDRESSES, FIXED);
@@ -113,9 +94,7 @@ fn whole_bytes(head: &[u8], code: u8) -> usize
 }
 
 // "other page controls and pages", and an answer too long: what step 4 asks.
-pub fn no_answer(head: &[u8], block: &[u8]) -> bool
-    requires head_size_in_bounds { head_size ≤ length head.now }
-    requires block_len { length block.now ≡ 6 }
+pub fn no_answer(head: &[u8; layout::HEAD_SIZE], block: &[u8; 6]) -> bool
     ensures { result ≡ no_answer head.now block.now }
 {
     if block[2] / 64 != 0 {
@@ -131,8 +110,8 @@ pub fn no_answer(head: &[u8], block: &[u8]) -> bool
 // ---- the pages, each written from a place on
 
 // 001, table 33: of the k-th type the first address and the number.
-fn assign(d: &mut [u8], at: usize, head: &[u8], k: usize)
-    requires { (at + 4 ≤ length d.old) × ((head_size ≤ length head.now) × (k < 4)) }
+fn assign(d: &mut [u8], at: usize, head: &[u8; layout::HEAD_SIZE], k: usize)
+    requires { (at + 4 ≤ length d.old) × (k < 4) }
     ensures { d.new ≡ put d.old at (assigned (range head.now k)) }
 {
     let first = wire::word_at(head, layout::RANGE_SIZE * k);
@@ -142,16 +121,16 @@ fn assign(d: &mut [u8], at: usize, head: &[u8], k: usize)
 }
 
 // 001, table 33: all four, then two reserved bytes.
-fn addresses(d: &mut [u8], at: usize, head: &[u8])
-    requires { (at + 20 ≤ length d.old) × (head_size ≤ length head.now) }
+fn addresses(d: &mut [u8], at: usize, head: &[u8; layout::HEAD_SIZE])
+    requires { at + 20 ≤ length d.old }
     ensures { d.new ≡ put d.old at (paged 0x1D (assignments (ranges head.now))) }
 {
-    wire::put_two(d, at, ADDRESSES, FIXED as u8);
+    wire::put(d, at, [ADDRESSES, FIXED as u8]);
     assign(d, at + 2, head, 0);
     assign(d, at + 6, head, 1);
     assign(d, at + 10, head, 2);
     assign(d, at + 14, head, 3);
-    wire::put_two(d, at + 18, 0, 0);
+    wire::put(d, at + 18, [0, 0]);
 }
 
 // 001, table 35: "one robotics set without rotation", whose first member has number 0.
@@ -159,10 +138,8 @@ fn arms(d: &mut [u8], at: usize, n: usize)
     requires { (at + 2 * n ≤ length d.old) × (n < 128) }
     ensures { d.new ≡ put d.old at (members n 0) }
 {
-    let mut i: usize = 0;
-    while i < n {
-        wire::put_two(d, at + 2 * i, 0, i as u8);
-        i += 1;
+    for i in 0..n {
+        wire::put(d, at + 2 * i, [0, i as u8]);
     }
 }
 
@@ -171,7 +148,7 @@ fn geometry(d: &mut [u8], at: usize, n: usize)
     requires { (at + 2 + 2 * n ≤ length d.old) × (n < 128) }
     ensures { d.new ≡ put d.old at (paged 0x1E (members n 0)) }
 {
-    wire::put_two(d, at, GEOMETRY, (2 * n) as u8);
+    wire::put(d, at, [GEOMETRY, (2 * n) as u8]);
     arms(d, at + PAGE_HEADER, n);
 }
 
@@ -180,10 +157,7 @@ fn kinds(d: &mut [u8], at: usize)
     requires { at + 8 ≤ length d.old }
     ensures { d.new ≡ put d.old at kindsOf }
 {
-    wire::put_two(d, at, NONE, THESE);
-    wire::put_two(d, at + 2, THESE, THESE);
-    wire::put_two(d, at + 4, 0, 0);
-    wire::put_two(d, at + 6, 0, 0);
+    wire::put(d, at, [NONE, THESE, THESE, THESE, 0, 0, 0, 0]);
 }
 
 // 001, table 32: which types store, a reserved byte, the moves, the exchanges.
@@ -191,17 +165,16 @@ fn capabilities(d: &mut [u8], at: usize)
     requires { at + 20 ≤ length d.old }
     ensures { d.new ≡ put d.old at (paged 0x1F capabilitiesOf) }
 {
-    wire::put_two(d, at, CAPABILITIES, FIXED as u8);
-    wire::put_two(d, at + 2, THESE, 0);
+    wire::put(d, at, [CAPABILITIES, FIXED as u8, THESE, 0]);
     kinds(d, at + 4);
     kinds(d, at + 12);
 }
 
 // ---- the answer
 
-// Each page, if it is asked for; hands back the place behind it.
-fn with_addresses(d: &mut [u8], at: usize, head: &[u8], code: u8) -> usize
-    requires { (at + bytes_of code 0x1D 18 ≤ length d.old) × (head_size ≤ length head.now) }
+// Each page, if it is asked for; hands back the place behind it. The three differ in what they write from: a closure for that would leave nothing else in one.
+fn with_addresses(d: &mut [u8], at: usize, head: &[u8; layout::HEAD_SIZE], code: u8) -> usize
+    requires { at + bytes_of code 0x1D 18 ≤ length d.old }
     ensures d_after { d.new ≡ put d.old at (piece code 0x1D (assignments (ranges head.now))) }
     ensures value { result ≡ at + bytes_of code 0x1D 18 }
 {
@@ -234,14 +207,12 @@ fn with_capabilities(d: &mut [u8], at: usize, code: u8)
 }
 
 // The header and the pages, by rising code.
-fn whole(d: &mut [u8], head: &[u8], code: u8)
-    requires head_size_in_bounds { head_size ≤ length head.now }
-    requires code_len_bound { (length (mode_whole head.now code) ≤ most) × (most ≤ length d.old) }
+fn whole(d: &mut [u8; MOST], head: &[u8; layout::HEAD_SIZE], code: u8)
+    requires { length (mode_whole head.now code) ≤ most }
     ensures { d.new ≡ put d.old 0 (mode_whole head.now code) }
 {
     let n = whole_bytes(head, code);
-    wire::put_two(d, 0, (n - 1) as u8, 0);
-    wire::put_two(d, 2, 0, 0);
+    wire::put(d, 0, [(n - 1) as u8, 0, 0, 0]);
     let g = with_addresses(d, HEADER, head, code);
     let c = with_geometry(d, g, transports(head), code);
     with_capabilities(d, c, code);
@@ -250,40 +221,54 @@ fn whole(d: &mut [u8], head: &[u8], code: u8)
 // ---- the command
 
 // Judged by reading only: the answer buffer has room for so many bytes.
-fn judge(head: &[u8], code: u8, allocation: u8, room: usize) -> Ruling
-    requires { head_size ≤ length head.now }
+fn judge(
+    head: &[u8; layout::HEAD_SIZE],
+    code: u8,
+    allocation: u8,
+    room: usize,
+) -> Result<usize, House>
     ensures value { result ≡ mode_by head.now code allocation room }
     ensures within { Within head.now code room result }
 {
-    let count = order::cut(allocation as usize, whole_bytes(head, code));
+    let count = (allocation as usize).min(whole_bytes(head, code));
     if room < count {
-        return Ruling::Short;
+        return Err(House::ShortBuffer);
     }
-    Ruling::Tell(count)
+    Ok(count)
 }
 
 // The first so many bytes of the whole answer; the sense is cleared.
-fn tell(head: &mut [u8], host: u8, code: u8, answer: &mut [u8], count: usize) -> Reply
-    requires head_size_in_bounds { (head_size ≤ length head.old) × (host ≤ hosts) }
+fn tell(
+    head: &mut [u8; layout::HEAD_SIZE],
+    host: Host,
+    code: u8,
+    answer: &mut [u8],
+    count: usize,
+) -> Reply
     requires code_len_bound { length (mode_whole head.old code) ≤ most }
     requires count_in_bounds { (count ≤ length (mode_whole head.old code)) × (count ≤ length answer.old) }
-    ensures { (elements : List ℕ) (rest : Rest) → ended result (lent head.new elements rest) answer.new ≡ outcome (lent head.old elements rest) answer.old (meaning head.old host code (Ruling.Tell count)) }
+    ensures { (elements : List ℕ) (rest : Rest) → ended result (lent head.new elements rest) answer.new ≡ outcome (lent head.old elements rest) answer.old (meaning head.old host.number code (Ok count)) }
 {
     let mut bytes = [0u8; MOST];
     whole(&mut bytes, head, code);
     wire::copy(answer, &bytes[..count]);
-    tables::head::wipe(head, host);
-    order::told(order::GOOD, count as u32)
+    tables::head::wipe(head, host.number);
+    order::told(Status::Good, count as u32)
 }
 
 // MODE SENSE, from step 5 on: the bytes are counted before one is written, and house number 5 leaves all as it was.
-pub fn mode_sense(head: &mut [u8], host: u8, block: &[u8], answer: &mut [u8]) -> Reply
-    requires { Asked head.old host block.now }
-    ensures { (elements : List ℕ) (rest : Rest) → ended result (lent head.new elements rest) answer.new ≡ outcome (lent head.old elements rest) answer.old (fits answer.old (mode_sense (lent head.old elements rest) host block.now)) }
+pub fn mode_sense(
+    head: &mut [u8; layout::HEAD_SIZE],
+    host: Host,
+    block: &[u8; 6],
+    answer: &mut [u8],
+) -> Reply
+    requires { no_answer head.old block.now ≡ false }
+    ensures { (elements : List ℕ) (rest : Rest) → ended result (lent head.new elements rest) answer.new ≡ outcome (lent head.old elements rest) answer.old (fits answer.old (mode_sense (lent head.old elements rest) host.number block.now)) }
 {
     let code = page_code(block);
     match judge(head, code, block[4], answer.len()) {
-        Ruling::Short => order::numbered(order::TOO_SHORT),
-        Ruling::Tell(count) => tell(head, host, code, answer, count),
+        Ok(count) => tell(head, host, code, answer, count),
+        Err(why) => order::numbered(why),
     }
 }

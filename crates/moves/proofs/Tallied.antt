@@ -4,11 +4,12 @@ use Prim.Native.Nat.{ℕ, ◌*◌, ◌<◌}
 use native.Mathlib.Omega.{arith}
 use mathlib.Core.Path.{◌≡◌, sym, ap, ◌∙◌}
 use mathlib.Core.Logic.{◌≢◌}
-use mathlib.Core.Bool.{Bool, false}
+use mathlib.Core.Bool.{false}
 use mathlib.Core.List.{List}
 use lib.ListN.{length}
 use lib.Dec.{eqb, leb}
 use borrow.Author.Tests.{eqb-false, ne_eqb, leb-false}
+use Rattle.std.specs.Prelude.{IfOk}
 use Rattle.rules.specs.Bytes.{word}
 use Rattle.rules.specs.Tables.{element_size, volume, empty_shelves}
 use Rattle.rules.specs.Roster.{Slot, kind_of, place_of, transport}
@@ -18,8 +19,9 @@ use Rattle.rules.proofs.Panel.{shelves-moved, shelves-exchanged}
 use Rattle.tables.specs.LookUp.{spot_of}
 use Rattle.tables.specs.declared.Spot.{Spot}
 use Rattle.tables.proofs.LookUp.{found-cases}
-use Rattle.moves.specs.declared.Ruling.{Ruling}
-use Rattle.moves.specs.Judged.{shelf_at, Tallies, hinders, on_place, move_at, move_spots, exchange_at, exchange_spots, judged_by, carried, swapped, shifted}
+use Rattle.moves.specs.declared.Carry.{Carry}
+use Rattle.moves.specs.declared.Carry.TheVariants.{Move, Exchange}
+use Rattle.moves.specs.Judged.{Ruling, shelf_at, Tallies, hinders, on_place, move_at, move_spots, exchange_at, exchange_spots, spots, judged_by, carried, swapped, shifted}
 
 -- the second destination is the source, or it is empty
 free-second : (es : List ℕ) (p a b : ℕ) → hinders es p (eqb a b) ≡ false → a ≢ b → volume es p ≡ 0
@@ -29,7 +31,7 @@ free-second es p a b e n = differ-false _ _ (sym (when_false _ _ _ (ne_eqb a b n
 module _ (ss : List Slot) (placed : Placed 0 ss) (es : List ℕ) (long : length es ≡ element_size * length ss)
     (head generations masks : List ℕ) (h : ℕ) (block : List ℕ) where
   abbrev Right : Ruling → Type 0
-  Right = Tallies ss es block (empty_shelves ss es)
+  Right r = IfOk r (Tallies ss es block (empty_shelves ss es))
 
   on-place : (a : ℕ) (f : Spot → Ruling) → (transport < kind_of ss a → Right (f (spot_of ss a))) → Right (on_place ss a f)
   unfolding on_place
@@ -70,13 +72,14 @@ module _ (ss : List Slot) (placed : Placed 0 ss) (es : List ℕ) (long : length 
           either c a (λ e. place-apart ss b a d (known a i) (sym x ∙ ap (place_of ss) e))
           (λ n. eqb-false _ _ full (ap (volume es) (sym x) ∙ free-second es _ c a free n))
 
-  pub judged-tallies : (both : Bool) → Right (judged_by ss head generations masks es h block both)
-  unfolding judged_by move_spots exchange_spots
-  judged-tallies both =
+  pub judged-tallies : (carry : Carry) → Right (judged_by carry ss head generations masks es h block)
+  unfolding judged_by spots move_spots exchange_spots
+  judged-tallies Move =
+      rw found-cases
+      (on Right _ (λ _. on-place (word block 4) _ (λ i. on-place (word block 6) _ (λ j. move-right _ _ _ i j))) (λ _. tt))
+  judged-tallies Exchange =
       rw found-cases
       (on Right _
-      (λ _. on Right both
       (λ _. on-place (word block 4) _ (λ i. on-place (word block 6) _ (λ j. on-place (word block 8) _
       (λ k. on Right (eqb (word block 6) (word block 4)) (λ _. tt) (λ d. exchange-right _ _ _ _ i j k (eqb-false _ _ d))))))
-      (λ _. on-place (word block 4) _ (λ i. on-place (word block 6) _ (λ j. move-right _ _ _ i j))))
       (λ _. tt))

@@ -1,23 +1,30 @@
 // MOVE MEDIUM and EXCHANGE MEDIUM from step 5 on: judged by reading only, then carried out.
 #![tactic(auto)]
 
-ghost use Rattle.std.specs.Prelude.{◌≡◌, List, ℕ, ◌+◌, ◌-◌, ◌<◌, ◌≤◌, length};
-ghost use Rattle.rules.specs.Tables.{head_size, most_elements, hosts, places, panel, shown, lent, Rest};
-ghost use Rattle.rules.specs.Order.{outcome};
-ghost use Rattle.rules.specs.Moves.{move as moveVerdict, exchange as exchangeVerdict};
+ghost use Rattle.std.specs.Prelude.{◌≡◌, List, ℕ, ◌+◌, ◌-◌, ◌<◌, ◌≤◌, length, IfOk};
+ghost use Rattle.rules.specs.Bytes.{word};
+ghost use Rattle.rules.specs.Tables.{most_elements, places, holder, panel, shown, lent, Rest};
+ghost use Rattle.rules.specs.Order.{outcome, other};
 ghost use Rattle.order.specs.Ending.{ended};
 ghost use Rattle.tables.specs.Ranges.{laid};
-ghost use Rattle.moves.specs.Judged.{shelf_at, meaning, Within, move_at, exchange_held, hinders, exchange_at, move_spots, exchange_spots, judged_by, carry_verdict, unfit_at, shifted, carried, swapped, shelf, Able, Ready};
+ghost use Rattle.moves.specs.Judged.{asked, shelf_at, carries, Within, move_at, exchange_held, hinders, exchange_at, move_spots, exchange_spots, judged_by, carry_verdict, unfit_at, shifted, carried, swapped, shelf, Able, Ready};
 
-use order::{Cause, Reply};
-use tables::{Found, Range, Spot};
+use order::{Cause, Refusal, Reply};
+use tables::{Host, Range, Spot};
 
 // Where the range of the drives stands in the head: "in the order transport, storage, import/export, drive"
 const DRIVES: usize = 3 * layout::RANGE_SIZE;
 
-// What a command comes to: types and places of the elements to carry from and to with the volumes that stand there, a refusal with its cause, or a conflict.
+// Which of the two commands it is.
+#[derive(Clone, Copy, PartialEq, Eq)]
+pub enum Carry {
+    Move,
+    Exchange,
+}
+
+// What is carried: types and places of the elements to carry from and to, with the volumes that stand there.
 #[derive(Clone, Copy)]
-pub enum Ruling {
+pub enum Carriage {
     Move {
         from: Spot,
         to: Spot,
@@ -30,276 +37,202 @@ pub enum Ruling {
         brought: u16,
         displaced: u16,
     },
-    Refused(Cause),
-    Conflict,
 }
 
-// "when a drive can't take a cartridge's generation": the element at an address is by its type a drive, and does not take a volume.
-fn unfit(head: &[u8], generations: &[u8], masks: &[u8], kind: u8, address: u16, volume: u16) -> bool
-    requires { head_size ≤ length head.now }
-    ensures { result ≡ unfit_at head.now generations.now masks.now kind address volume }
-{
-    if kind != layout::DRIVE {
-        return false;
-    }
-    let first = wire::word_at(head, DRIVES);
-    let drive = wire::less(address as usize, first as usize);
-    !fitting::drive_takes(generations, masks, drive, volume)
-}
-
-// MOVE, steps 6 to 8, and what stands behind them: the transport's place, the source, the destination.
-fn move_at(
-    head: &[u8],
-    elements: &[u8],
-    generations: &[u8],
-    masks: &[u8],
+// What a command is judged by: the tables that it reads, its host and its block.
+#[derive(Clone, Copy)]
+struct Asked<'a> {
+    head: &'a [u8; layout::HEAD_SIZE],
+    elements: &'a [u8],
+    generations: &'a [u8],
+    masks: &'a [u8],
     host: u8,
-    block: &[u8],
-    arm: usize,
-    from: Spot,
-    to: Spot,
-) -> Ruling
-    requires head_size_in_bounds { head_size ≤ length head.now }
-    requires block_len { length block.now ≡ 12 }
-    requires arm_bound { arm < places elements.now }
-    requires place_bound { from.place < places elements.now }
-    requires place_bound_2 { to.place < places elements.now }
-    ensures value { result ≡ move_at head.now generations.now masks.now elements.now host block.now arm from to }
-    ensures within { Within (places elements.now) result }
-{
-    if arms::place_held(elements, host, arm) {
-        return Ruling::Conflict;
-    }
-    if arms::place_held(elements, host, from.place) {
-        return Ruling::Conflict;
-    }
-    if arms::place_held(elements, host, to.place) {
-        return Ruling::Conflict;
-    }
-    let volume = tables::element::volume(elements, from.place);
-    if volume == 0 {
-        return Ruling::Refused(Cause::SourceEmpty);
-    }
-    if tables::element::volume(elements, to.place) != 0 {
-        return Ruling::Refused(Cause::DestinationFull);
-    }
-    let address = wire::word_at(block, 6);
-    if unfit(head, generations, masks, to.kind, address, volume) {
-        return Ruling::Refused(Cause::IncompatibleMedium);
-    }
-    Ruling::Move { from, to, volume }
+    block: &'a [u8; 12],
 }
 
-// MOVE from step 5 on, from the transport's place on: "4-5 source, 6-7 destination"
-fn move_spots(
-    runs: [Range; 4],
-    head: &[u8],
-    elements: &[u8],
-    generations: &[u8],
-    masks: &[u8],
-    host: u8,
-    block: &[u8],
-    arm: usize,
-) -> Ruling
-    requires head_size_in_bounds { head_size ≤ length head.now }
-    requires runs_len { length (laid runs) ≡ places elements.now }
-    requires block_len { length block.now ≡ 12 }
-    requires arm_bound { arm < places elements.now }
-    ensures value { result ≡ move_spots (laid runs) head.now generations.now masks.now elements.now host block.now arm }
-    ensures within { Within (places elements.now) result }
-{
-    let from = tables::spot_of(runs, wire::word_at(block, 4) as u32);
-    if from.kind <= layout::TRANSPORT {
-        return Ruling::Refused(Cause::WrongAddress);
+// ---- judged
+
+impl<'a> Asked<'a> {
+    // The address in two bytes of the block.
+    fn address(self, at: usize) -> u16
+        requires { at ≤ 10 }
+        ensures { result ≡ word self.entry.block.now at }
+    {
+        let block = self.block;
+        wire::word_at(block, at)
     }
-    let to = tables::spot_of(runs, wire::word_at(block, 6) as u32);
-    if to.kind <= layout::TRANSPORT {
-        return Ruling::Refused(Cause::WrongAddress);
+
+    // The element at a place is held by another host.
+    fn held(self, place: usize) -> bool
+        requires { place < places self.elements.now }
+        ensures { result ≡ other self.entry.host (holder self.entry.elements.now place) }
+    {
+        arms::place_held(self.elements, self.host, place)
     }
-    move_at(
-        head,
-        elements,
-        generations,
-        masks,
-        host,
-        block,
-        arm,
-        from,
-        to,
-    )
+
+    // "when a drive can't take a cartridge's generation": the element at an address is by its type a drive, and does not take a volume.
+    #[tactic(auto, unfolding(crate::specs::Judged::unfit_at, rules::specs::Choice::all_of, rules::specs::Choice::when, rules::specs::Roster::range))]
+    fn unfit(self, kind: u8, address: u16, volume: u16) -> bool
+        ensures { result ≡ unfit_at self.entry.head.now self.entry.generations.now self.entry.masks.now kind address volume }
+    {
+        if kind != layout::DRIVE {
+            return false;
+        }
+        let head = self.head;
+        let first = wire::word_at(head, DRIVES);
+        let drive = (address as usize).saturating_sub(first as usize);
+        !fitting::drive_takes(self.generations, self.masks, drive, volume)
+    }
+
+    // MOVE, steps 6 to 8, and what stands behind them: the transport's place, the source, the destination.
+    #[tactic(auto, unfolding(crate::specs::Judged::move_at, rules::specs::Choice::when, rules::specs::Choice::differ, rules::specs::Tables::places))]
+    fn move_at(self, arm: usize, from: Spot, to: Spot) -> Result<Carriage, Refusal>
+        requires arm_bound { arm < places self.elements.now }
+        requires place_bound { from.place < places self.elements.now }
+        requires place_bound_2 { to.place < places self.elements.now }
+        ensures value { result ≡ asked move_at self.entry arm from to }
+        ensures within { IfOk result (Within (places self.entry.elements.now)) }
+    {
+        if self.held(arm) || self.held(from.place) || self.held(to.place) {
+            return Err(Refusal::Conflict);
+        }
+        let volume = tables::element::volume(self.elements, from.place);
+        if volume == 0 {
+            return Err(Refusal::For(Cause::SourceEmpty));
+        }
+        if tables::element::volume(self.elements, to.place) != 0 {
+            return Err(Refusal::For(Cause::DestinationFull));
+        }
+        if self.unfit(to.kind, self.address(6), volume) {
+            return Err(Refusal::For(Cause::IncompatibleMedium));
+        }
+        Ok(Carriage::Move { from, to, volume })
+    }
+
+    // MOVE from step 5 on, from the transport's place on: "4-5 source, 6-7 destination", which "must be elements and no transport".
+    #[tactic(auto, unfolding(crate::specs::Judged::move_spots, crate::specs::Judged::on_place, rules::specs::Choice::when, tables::specs::LookUp::spot_of))]
+    fn move_spots(self, runs: [Range; 4], arm: usize) -> Result<Carriage, Refusal>
+        requires runs_len { length (laid runs) ≡ places self.elements.now }
+        requires arm_bound { arm < places self.elements.now }
+        ensures value { result ≡ asked (move_spots (laid runs)) self.entry arm }
+        ensures within { IfOk result (Within (places self.entry.elements.now)) }
+    {
+        let from = tables::spot_of(runs, self.address(4) as u32);
+        let to = tables::spot_of(runs, self.address(6) as u32);
+        if from.kind <= layout::TRANSPORT || to.kind <= layout::TRANSPORT {
+            return Err(Refusal::For(Cause::WrongAddress));
+        }
+        self.move_at(arm, from, to)
+    }
+
+    // EXCHANGE, step 6: whether an element touched is held by another host.
+    #[tactic(auto, unfolding(crate::specs::Judged::exchange_held, rules::specs::Choice::any_of, rules::specs::Choice::when))]
+    fn exchange_held(self, arm: usize, from: usize, first: usize, second: usize) -> bool
+        requires arm_bound { arm < places self.elements.now }
+        requires from_bound { from < places self.elements.now }
+        requires first_bound { first < places self.elements.now }
+        requires second_bound { second < places self.elements.now }
+        ensures { result ≡ exchange_held self.entry.elements.now self.entry.host arm from first second }
+    {
+        self.held(arm) || self.held(from) || self.held(first) || self.held(second)
+    }
+
+    // EXCHANGE, step 8: the second destination is full, and not the source.
+    #[tactic(auto, unfolding(crate::specs::Judged::hinders, rules::specs::Choice::when, rules::specs::Choice::differ, rules::specs::Tables::places))]
+    fn hinders(self, second: usize, same: bool) -> bool
+        requires { second < places self.elements.now }
+        ensures { result ≡ hinders self.entry.elements.now second same }
+    {
+        !same && tables::element::volume(self.elements, second) != 0
+    }
+
+    // EXCHANGE, steps 6 to 8, and what stands behind them: the volume that is brought goes to bytes 6-7, the one displaced to bytes 8-9. `same`: the second
+    // destination is the source.
+    #[tactic(auto, unfolding(crate::specs::Judged::exchange_at, rules::specs::Choice::when, rules::specs::Tables::places))]
+    fn exchange_at(
+        self,
+        arm: usize,
+        from: Spot,
+        first: Spot,
+        second: Spot,
+        same: bool,
+    ) -> Result<Carriage, Refusal>
+        requires arm_bound { arm < places self.elements.now }
+        requires place_bound { from.place < places self.elements.now }
+        requires place_bound_2 { first.place < places self.elements.now }
+        requires place_bound_3 { second.place < places self.elements.now }
+        ensures value { result ≡ asked exchange_at self.entry arm from first second same }
+        ensures within { IfOk result (Within (places self.entry.elements.now)) }
+    {
+        if self.exchange_held(arm, from.place, first.place, second.place) {
+            return Err(Refusal::Conflict);
+        }
+        let brought = tables::element::volume(self.elements, from.place);
+        let displaced = tables::element::volume(self.elements, first.place);
+        if brought == 0 || displaced == 0 {
+            return Err(Refusal::For(Cause::SourceEmpty));
+        }
+        if self.hinders(second.place, same) {
+            return Err(Refusal::For(Cause::DestinationFull));
+        }
+        if self.unfit(first.kind, self.address(6), brought)
+            || self.unfit(second.kind, self.address(8), displaced)
+        {
+            return Err(Refusal::For(Cause::IncompatibleMedium));
+        }
+        Ok(Carriage::Exchange {
+            from,
+            first,
+            second,
+            brought,
+            displaced,
+        })
+    }
+
+    // EXCHANGE from step 5 on, from the transport's place on: "4-5 source, 6-7 first destination, 8-9 second"
+    #[tactic(auto, unfolding(crate::specs::Judged::exchange_spots, crate::specs::Judged::on_place, rules::specs::Choice::when, tables::specs::LookUp::spot_of))]
+    fn exchange_spots(self, runs: [Range; 4], arm: usize) -> Result<Carriage, Refusal>
+        requires runs_len { length (laid runs) ≡ places self.elements.now }
+        requires arm_bound { arm < places self.elements.now }
+        ensures value { result ≡ asked (exchange_spots (laid runs)) self.entry arm }
+        ensures within { IfOk result (Within (places self.entry.elements.now)) }
+    {
+        let source = self.address(4);
+        let nearer = self.address(6);
+        let farther = self.address(8);
+        let from = tables::spot_of(runs, source as u32);
+        let first = tables::spot_of(runs, nearer as u32);
+        let second = tables::spot_of(runs, farther as u32);
+        if from.kind <= layout::TRANSPORT
+            || first.kind <= layout::TRANSPORT
+            || second.kind <= layout::TRANSPORT
+            || nearer == source
+        {
+            return Err(Refusal::For(Cause::WrongAddress));
+        }
+        self.exchange_at(arm, from, first, second, farther == source)
+    }
+
+    // From step 5 on: "bytes 2-3 transport", and behind it the places of a MOVE or an EXCHANGE.
+    fn judge(self, carry: Carry, runs: [Range; 4]) -> Result<Carriage, Refusal>
+        requires { length (laid runs) ≡ places self.elements.now }
+        ensures value { result ≡ asked (judged_by carry (laid runs)) self.entry }
+        ensures within { IfOk result (Within (places self.entry.elements.now)) }
+    {
+        let Some(arm) = arms::arm_of(runs, self.elements, self.host, self.address(2)) else {
+            return Err(Refusal::For(Cause::WrongAddress));
+        };
+        match carry {
+            Carry::Move => self.move_spots(runs, arm),
+            Carry::Exchange => self.exchange_spots(runs, arm),
+        }
+    }
 }
 
-// EXCHANGE, step 6: whether an element touched is held by another host.
-fn exchange_held(
-    elements: &[u8],
-    host: u8,
-    arm: usize,
-    from: usize,
-    first: usize,
-    second: usize,
-) -> bool
-    requires arm_bound { arm < places elements.now }
-    requires from_bound { from < places elements.now }
-    requires first_bound { first < places elements.now }
-    requires second_bound { second < places elements.now }
-    ensures { result ≡ exchange_held elements.now host arm from first second }
-{
-    if arms::place_held(elements, host, arm) {
-        return true;
-    }
-    if arms::place_held(elements, host, from) {
-        return true;
-    }
-    if arms::place_held(elements, host, first) {
-        return true;
-    }
-    arms::place_held(elements, host, second)
-}
-
-// EXCHANGE, step 8: the second destination is full, and not the source.
-fn hinders(elements: &[u8], second: usize, same: bool) -> bool
-    requires { second < places elements.now }
-    ensures { result ≡ hinders elements.now second same }
-{
-    if same {
-        return false;
-    }
-    tables::element::volume(elements, second) != 0
-}
-
-// EXCHANGE, steps 6 to 8, and what stands behind them: the volume that is brought goes to bytes 6-7, the one displaced to bytes 8-9. `same`: the second
-// destination is the source.
-fn exchange_at(
-    head: &[u8],
-    elements: &[u8],
-    generations: &[u8],
-    masks: &[u8],
-    host: u8,
-    block: &[u8],
-    arm: usize,
-    from: Spot,
-    first: Spot,
-    second: Spot,
-    same: bool,
-) -> Ruling
-    requires head_size_in_bounds { head_size ≤ length head.now }
-    requires block_len { length block.now ≡ 12 }
-    requires arm_bound { arm < places elements.now }
-    requires place_bound { from.place < places elements.now }
-    requires place_bound_2 { first.place < places elements.now }
-    requires place_bound_3 { second.place < places elements.now }
-    ensures value { result ≡ exchange_at head.now generations.now masks.now elements.now host block.now arm from first second same }
-    ensures within { Within (places elements.now) result }
-{
-    if exchange_held(elements, host, arm, from.place, first.place, second.place) {
-        return Ruling::Conflict;
-    }
-    let brought = tables::element::volume(elements, from.place);
-    if brought == 0 {
-        return Ruling::Refused(Cause::SourceEmpty);
-    }
-    let displaced = tables::element::volume(elements, first.place);
-    if displaced == 0 {
-        return Ruling::Refused(Cause::SourceEmpty);
-    }
-    if hinders(elements, second.place, same) {
-        return Ruling::Refused(Cause::DestinationFull);
-    }
-    let nearer = wire::word_at(block, 6);
-    if unfit(head, generations, masks, first.kind, nearer, brought) {
-        return Ruling::Refused(Cause::IncompatibleMedium);
-    }
-    let farther = wire::word_at(block, 8);
-    if unfit(head, generations, masks, second.kind, farther, displaced) {
-        return Ruling::Refused(Cause::IncompatibleMedium);
-    }
-    Ruling::Exchange {
-        from,
-        first,
-        second,
-        brought,
-        displaced,
-    }
-}
-
-// EXCHANGE from step 5 on, from the transport's place on: "4-5 source, 6-7 first destination, 8-9 second"
-fn exchange_spots(
-    runs: [Range; 4],
-    head: &[u8],
-    elements: &[u8],
-    generations: &[u8],
-    masks: &[u8],
-    host: u8,
-    block: &[u8],
-    arm: usize,
-) -> Ruling
-    requires head_size_in_bounds { head_size ≤ length head.now }
-    requires runs_len { length (laid runs) ≡ places elements.now }
-    requires block_len { length block.now ≡ 12 }
-    requires arm_bound { arm < places elements.now }
-    ensures value { result ≡ exchange_spots (laid runs) head.now generations.now masks.now elements.now host block.now arm }
-    ensures within { Within (places elements.now) result }
-{
-    let source = wire::word_at(block, 4);
-    let nearer = wire::word_at(block, 6);
-    let farther = wire::word_at(block, 8);
-    let from = tables::spot_of(runs, source as u32);
-    if from.kind <= layout::TRANSPORT {
-        return Ruling::Refused(Cause::WrongAddress);
-    }
-    let first = tables::spot_of(runs, nearer as u32);
-    if first.kind <= layout::TRANSPORT {
-        return Ruling::Refused(Cause::WrongAddress);
-    }
-    let second = tables::spot_of(runs, farther as u32);
-    if second.kind <= layout::TRANSPORT {
-        return Ruling::Refused(Cause::WrongAddress);
-    }
-    if nearer == source {
-        return Ruling::Refused(Cause::WrongAddress);
-    }
-    exchange_at(
-        head,
-        elements,
-        generations,
-        masks,
-        host,
-        block,
-        arm,
-        from,
-        first,
-        second,
-        farther == source,
-    )
-}
-
-// From step 5 on: "bytes 2-3 transport", and behind it the places of an EXCHANGE or a MOVE.
-fn judge(
-    runs: [Range; 4],
-    head: &[u8],
-    elements: &[u8],
-    generations: &[u8],
-    masks: &[u8],
-    host: u8,
-    block: &[u8],
-    exchange: bool,
-) -> Ruling
-    requires head_size_in_bounds { head_size ≤ length head.now }
-    requires runs_len { length (laid runs) ≡ places elements.now }
-    requires block_len { length block.now ≡ 12 }
-    ensures value { result ≡ judged_by (laid runs) head.now generations.now masks.now elements.now host block.now exchange }
-    ensures within { Within (places elements.now) result }
-{
-    let Found::At(arm) = arms::arm_of(runs, elements, host, wire::word_at(block, 2)) else {
-        return Ruling::Refused(Cause::WrongAddress);
-    };
-    if exchange {
-        return exchange_spots(runs, head, elements, generations, masks, host, block, arm);
-    }
-    move_spots(runs, head, elements, generations, masks, host, block, arm)
-}
+// ---- carried out. That a place is in the table is asked of each function: it is a fact of a place and a table together, which no type of either says.
 
 // "a volume leaving a storage element takes that address; leaving any other, it keeps the source it had, none included"
+#[tactic(auto, unfolding(crate::specs::Judged::shelf_at, rules::specs::Choice::when, rules::specs::Tables::places))]
 fn shelf_of(elements: &[u8], address: u16, left: Spot) -> u16
     requires { left.place < places elements.now }
     ensures { result ≡ shelf_at elements.now address left }
@@ -312,6 +245,7 @@ fn shelf_of(elements: &[u8], address: u16, left: Spot) -> u16
 }
 
 // The volume goes from one place to another with a source: "The place left has volume 0, source 0, mark 0".
+#[tactic(auto, unfolding(crate::specs::Judged::shifted, rules::specs::Tables::places))]
 fn shift(elements: &mut [u8], from: Spot, to: Spot, volume: u16, shelf: u16)
     requires place_bound { from.place < places elements.old }
     requires place_bound_2 { to.place < places elements.old }
@@ -322,8 +256,8 @@ fn shift(elements: &mut [u8], from: Spot, to: Spot, volume: u16, shelf: u16)
 }
 
 // The volume's source is read before a place is written.
-fn carry(elements: &mut [u8], block: &[u8], from: Spot, to: Spot, volume: u16)
-    requires block_len { length block.now ≡ 12 }
+#[tactic(auto, unfolding(crate::specs::Judged::carried, rules::specs::Tables::places))]
+fn carry_volume(elements: &mut [u8], block: &[u8; 12], from: Spot, to: Spot, volume: u16)
     requires place_bound { from.place < places elements.old }
     requires place_bound_2 { to.place < places elements.old }
     ensures { elements.new ≡ carried elements.old block.now from to volume }
@@ -333,16 +267,16 @@ fn carry(elements: &mut [u8], block: &[u8], from: Spot, to: Spot, volume: u16)
 }
 
 // Both volumes and their sources are read before a place is written.
+#[tactic(auto, unfolding(crate::specs::Judged::swapped, rules::specs::Tables::places))]
 fn swap(
     elements: &mut [u8],
-    block: &[u8],
+    block: &[u8; 12],
     from: Spot,
     first: Spot,
     second: Spot,
     brought: u16,
     displaced: u16,
 )
-    requires block_len { length block.now ≡ 12 }
     requires place_bound { from.place < places elements.old }
     requires place_bound_2 { first.place < places elements.old }
     requires place_bound_3 { second.place < places elements.old }
@@ -358,18 +292,15 @@ fn swap(
 }
 
 // One for a shelf, none for an element of another type.
+#[tactic(auto, unfolding(rules::specs::Choice::when))]
 fn shelf(kind: u8) -> u16
     ensures { result ≡ shelf kind }
 {
-    if kind == layout::STORAGE {
-        return 1;
-    }
-    0
+    if kind == layout::STORAGE { 1 } else { 0 }
 }
 
 // "Every move, exchange .. keeps it true": one more shelf is empty where one was left, one fewer where one was filled. Nothing is counted again.
-fn recount(head: &mut [u8], left: u8, filled: u8)
-    requires head_size_in_bounds { head_size ≤ length head.old }
+fn recount(head: &mut [u8; layout::HEAD_SIZE], left: u8, filled: u8)
     requires head_bound { panel head.old ≤ most_elements }
     requires filled_bound { shelf filled ≤ panel head.old + shelf left }
     ensures { head.new ≡ shown head.old (panel head.old + shelf left - shelf filled) }
@@ -379,19 +310,22 @@ fn recount(head: &mut [u8], left: u8, filled: u8)
 }
 
 // Carries out what was judged.
-fn carry_out(head: &mut [u8], elements: &mut [u8], host: u8, block: &[u8], ruling: Ruling) -> Reply
-    requires able { Able head.old elements.old block.now ruling }
-    requires le_host { 1 ≤ host }
-    requires host_le_hosts { host ≤ hosts }
-    ensures { (rest : Rest) (buffer : List ℕ) → ended result (lent head.new elements.new rest) buffer ≡ outcome (lent head.old elements.old rest) buffer (meaning elements.old host block.now ruling) }
+fn carry_out(
+    head: &mut [u8; layout::HEAD_SIZE],
+    elements: &mut [u8],
+    host: Host,
+    block: &[u8; 12],
+    carriage: Carriage,
+) -> Reply
+    requires { Able head.old elements.old block.now carriage }
+    ensures { (rest : Rest) (buffer : List ℕ) → ended result (lent head.new elements.new rest) buffer ≡ outcome (lent head.old elements.old rest) buffer (carries elements.old host.number block.now carriage) }
 {
-    match ruling {
-        Ruling::Move { from, to, volume } => {
-            carry(elements, block, from, to, volume);
+    match carriage {
+        Carriage::Move { from, to, volume } => {
+            carry_volume(elements, block, from, to, volume);
             recount(head, from.kind, to.kind);
-            return order::good(head, host);
         }
-        Ruling::Exchange {
+        Carriage::Exchange {
             from,
             first,
             second,
@@ -400,82 +334,36 @@ fn carry_out(head: &mut [u8], elements: &mut [u8], host: u8, block: &[u8], rulin
         } => {
             swap(elements, block, from, first, second, brought, displaced);
             recount(head, from.kind, second.kind);
-            return order::good(head, host);
-        }
-        Ruling::Refused(cause) => {
-            return order::refuse(head, host, cause);
-        }
-        Ruling::Conflict => {
-            return order::conflict(head, host);
         }
     }
+    order::good(head, host)
 }
 
-// Both commands from step 5 on. They have one way through, so that each function above has one caller and the compiler puts it in place: what is judged then
-// stays in registers.
-fn medium(
+// MOVE MEDIUM or EXCHANGE MEDIUM from step 5 on. They have one way through, so that each function above has one caller and the compiler puts it in place: what is
+// judged then stays in registers.
+pub fn medium(
+    carry: Carry,
     runs: [Range; 4],
-    head: &mut [u8],
+    head: &mut [u8; layout::HEAD_SIZE],
     elements: &mut [u8],
     generations: &[u8],
     masks: &[u8],
-    host: u8,
-    block: &[u8],
-    exchange: bool,
+    host: Host,
+    block: &[u8; 12],
 ) -> Reply
-    requires ready { Ready runs head.old elements.old }
-    requires le_host { 1 ≤ host }
-    requires host_le_hosts { host ≤ hosts }
-    requires block_len { length block.now ≡ 12 }
-    ensures { (rest : Rest) (buffer : List ℕ) → rest.generations ≡ generations.now → rest.masks ≡ masks.now → ended result (lent head.new elements.new rest) buffer ≡ outcome (lent head.old elements.old rest) buffer (carry_verdict exchange (lent head.old elements.old rest) host block.now) }
+    requires { Ready runs head.old elements.old }
+    ensures { (rest : Rest) (buffer : List ℕ) → rest.generations ≡ generations.now → rest.masks ≡ masks.now → ended result (lent head.new elements.new rest) buffer ≡ outcome (lent head.old elements.old rest) buffer (carry_verdict carry (lent head.old elements.old rest) host.number block.now) }
 {
-    let ruling = judge(
-        runs,
+    let asked = Asked {
         head,
         elements,
         generations,
         masks,
-        host,
+        host: host.number,
         block,
-        exchange,
-    );
-    carry_out(head, elements, host, block, ruling)
-}
-
-// MOVE MEDIUM from step 5 on.
-pub fn move_medium(
-    runs: [Range; 4],
-    head: &mut [u8],
-    elements: &mut [u8],
-    generations: &[u8],
-    masks: &[u8],
-    host: u8,
-    block: &[u8],
-) -> Reply
-    requires ready { Ready runs head.old elements.old }
-    requires le_host { 1 ≤ host }
-    requires host_le_hosts { host ≤ hosts }
-    requires block_len { length block.now ≡ 12 }
-    ensures { (rest : Rest) (buffer : List ℕ) → rest.generations ≡ generations.now → rest.masks ≡ masks.now → ended result (lent head.new elements.new rest) buffer ≡ outcome (lent head.old elements.old rest) buffer (moveVerdict (lent head.old elements.old rest) host block.now) }
-{
-    medium(runs, head, elements, generations, masks, host, block, false)
-}
-
-// EXCHANGE MEDIUM from step 5 on.
-pub fn exchange_medium(
-    runs: [Range; 4],
-    head: &mut [u8],
-    elements: &mut [u8],
-    generations: &[u8],
-    masks: &[u8],
-    host: u8,
-    block: &[u8],
-) -> Reply
-    requires ready { Ready runs head.old elements.old }
-    requires le_host { 1 ≤ host }
-    requires host_le_hosts { host ≤ hosts }
-    requires block_len { length block.now ≡ 12 }
-    ensures { (rest : Rest) (buffer : List ℕ) → rest.generations ≡ generations.now → rest.masks ≡ masks.now → ended result (lent head.new elements.new rest) buffer ≡ outcome (lent head.old elements.old rest) buffer (exchangeVerdict (lent head.old elements.old rest) host block.now) }
-{
-    medium(runs, head, elements, generations, masks, host, block, true)
+    };
+    match asked.judge(carry, runs) {
+        Ok(carriage) => carry_out(head, elements, host, block, carriage),
+        Err(why) => order::refused(head, host, why),
+    }
 }

@@ -1,57 +1,57 @@
 // House numbers 2 to 4.
 #![tactic(auto)]
 
-ghost use Rattle.std.specs.Prelude.{◌≡◌, length};
+ghost use Rattle.std.specs.Prelude.{◌≡◌, true, false, MatchOption, length};
 ghost use Rattle.rules.specs.Tables.{hosts};
 ghost use Rattle.rules.specs.Sound.{within};
 ghost use Rattle.rules.specs.Command.{group_fits, block_fits, wanted};
 ghost use Rattle.operation.specs.Meaning.{meaning, Fitting};
 
 use operation::Operation;
+use tables::Host;
 
 // "host not 1 to 8"
-pub fn known_host(host: u32) -> bool
-    ensures { result ≡ within 1 hosts host }
+pub fn host_of(number: u32) -> Option<Host>
+    ensures { MatchOption result (within 1 hosts number ≡ false) (λ host. (within 1 hosts number ≡ true) × (host.number ≡ number)) }
 {
-    if 1 <= host {
-        return host <= layout::HOSTS as u32;
+    if number < 1 {
+        return None;
     }
-    false
+    if number > layout::HOSTS as u32 {
+        return None;
+    }
+    Some(Host {
+        number: number as u8,
+    })
 }
 
 // "Length by the top three bits of the first byte"
+#[tactic(auto, using(rules::proofs::Ladder::ladder, rules::proofs::Rungs::rungs), unfolding(rules::specs::Command::group_fits))]
 fn group_fits(group: u8, n: usize) -> bool
     ensures { result ≡ group_fits group n }
 {
-    if group == 0 {
-        return n == 6;
+    match group {
+        0 => n == 6,
+        1 | 2 => n == 10,
+        4 => n == 16,
+        5 => n == 12,
+        _ => true,
     }
-    if group == 1 {
-        return n == 10;
-    }
-    if group == 2 {
-        return n == 10;
-    }
-    if group == 4 {
-        return n == 16;
-    }
-    if group == 5 {
-        return n == 12;
-    }
-    true
 }
 
 // "command block empty or of wrong length"
+#[tactic(auto, using(rules::proofs::Ladder::ladder), unfolding(rules::specs::Command::block_fits, rules::specs::Bytes::byte))]
 pub fn block_fits(block: &[u8]) -> bool
     ensures { result ≡ block_fits block.now }
 {
-    if block.len() == 0 {
-        return false;
+    match block.first() {
+        Some(first) => group_fits(first / 32, block.len()),
+        None => false,
     }
-    group_fits(block[0] / 32, block.len())
 }
 
-// "for RESERVE not as many as bytes 3-4 say; for any other known command not none"; "Number 4 reads B6h's own list length"
+// "for RESERVE not as many as bytes 3-4 say; for any other known command not none"; "Number 4 reads B6h's own list length" That the block has the length of its operation (`Fitting`) is a fact of both together.
+#[tactic(auto, unfolding(rules::specs::Command::wanted, operation::specs::Meaning::meaning))]
 pub fn parameters_fit(op: Operation, block: &[u8], parameters: &[u8]) -> bool
     requires { Fitting op block.now }
     ensures { result ≡ wanted (meaning op) block.now (length parameters.now) }

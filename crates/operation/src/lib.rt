@@ -6,7 +6,7 @@ ghost use Rattle.rules.specs.Operation.{decoded};
 ghost use Rattle.operation.specs.Meaning.{meaning};
 
 // "Eight commands", MODE SENSE, the two of the search, and any "Other first byte".
-#[derive(Clone, Copy)]
+#[derive(Clone, Copy, PartialEq, Eq)]
 pub enum Operation {
     TestUnitReady,
     RequestSense,
@@ -47,41 +47,22 @@ const SEND_VOLUME_TAG: u8 = 0xB6;
 const REQUEST_VOLUME_ELEMENT_ADDRESS: u8 = 0xB5;
 
 // The operation of a first byte.
+#[tactic(auto, using(rules::proofs::Ladder::ladder), unfolding(rules::specs::Operation::decoded, crate::specs::Meaning::meaning))]
 pub fn decode(first: u8) -> Operation
     ensures { meaning result ≡ decoded first }
 {
-    if first == TEST_UNIT_READY {
-        return Operation::TestUnitReady;
+    match first {
+        TEST_UNIT_READY => Operation::TestUnitReady,
+        REQUEST_SENSE => Operation::RequestSense,
+        RESERVE => Operation::Reserve,
+        RELEASE => Operation::Release,
+        PREVENT_ALLOW => Operation::PreventAllow,
+        MOVE_MEDIUM => Operation::MoveMedium,
+        EXCHANGE_MEDIUM => Operation::ExchangeMedium,
+        READ_ELEMENT_STATUS => Operation::ReadElementStatus,
+        MODE_SENSE => Operation::ModeSense,
+        SEND_VOLUME_TAG => Operation::SendVolumeTag,
+        REQUEST_VOLUME_ELEMENT_ADDRESS => Operation::RequestVolumeElementAddress,
+        _ => Operation::Unknown,
     }
-    if first == REQUEST_SENSE {
-        return Operation::RequestSense;
-    }
-    if first == RESERVE {
-        return Operation::Reserve;
-    }
-    if first == RELEASE {
-        return Operation::Release;
-    }
-    if first == PREVENT_ALLOW {
-        return Operation::PreventAllow;
-    }
-    if first == MOVE_MEDIUM {
-        return Operation::MoveMedium;
-    }
-    if first == EXCHANGE_MEDIUM {
-        return Operation::ExchangeMedium;
-    }
-    if first == READ_ELEMENT_STATUS {
-        return Operation::ReadElementStatus;
-    }
-    if first == MODE_SENSE {
-        return Operation::ModeSense;
-    }
-    if first == SEND_VOLUME_TAG {
-        return Operation::SendVolumeTag;
-    }
-    if first == REQUEST_VOLUME_ELEMENT_ADDRESS {
-        return Operation::RequestVolumeElementAddress;
-    }
-    Operation::Unknown
 }

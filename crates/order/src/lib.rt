@@ -1,29 +1,54 @@
-// What every command shares: the reply, the three statuses, the causes of a refusal, how an answer is cut, and what other hosts hold.
+// What every command shares: the reply, the three statuses, the house numbers, the causes of a refusal, and what other hosts hold.
 #![tactic(auto)]
 
-ghost use Rattle.std.specs.Prelude.{◌≡◌, List, [], ℕ, ◌≤◌, min, length};
-ghost use Rattle.rules.specs.Tables.{head_size, hosts, lent, Rest};
+ghost use Rattle.std.specs.Prelude.{◌≡◌, List, [], ℕ};
+ghost use Rattle.rules.specs.Tables.{lent, Rest};
 ghost use Rattle.rules.specs.Order.{outcome, refused, other as otherThan, good as goodVerdict, check as checkVerdict, conflict as conflictVerdict};
-ghost use Rattle.order.specs.Ending.{ended, numbered as numberedOf, told as told_of, reason};
+ghost use Rattle.order.specs.Ending.{ended, code, bare, numbered as numberedOf, told as told_of, reason, verdict};
+ghost use Rattle.order.specs.declared.Refusal.TheVariants.{For};
 ghost use Rattle.order.specs.Holders.{any_other};
 
+use tables::Host;
+
 // "GOOD is 00h, CHECK CONDITION 02h, RESERVATION CONFLICT 18h."
-pub const GOOD: u8 = 0x00;
+#[derive(Clone, Copy, PartialEq, Eq)]
+pub enum Status {
+    Good,
+    CheckCondition,
+    ReservationConflict,
+}
 
-pub const CHECK_CONDITION: u8 = 0x02;
+impl Status {
+    pub fn code(self) -> u8
+        ensures { result ≡ code self }
+    {
+        match self {
+            Status::Good => 0x00,
+            Status::CheckCondition => 0x02,
+            Status::ReservationConflict => 0x18,
+        }
+    }
+}
 
-pub const RESERVATION_CONFLICT: u8 = 0x18;
+// The house numbers, from 1 on: why a call ends with no status. Number 7 comes with how many hosts prevent removal and the lowest of them.
+#[derive(Clone, Copy, PartialEq, Eq)]
+pub enum House {
+    UnsoundTables,
+    UnknownHost,
+    BlockLength,
+    ParameterLength,
+    ShortBuffer,
+    UnknownPort,
+    Prevented { preventers: u8, lowest: u8 },
+    PortContent,
+    WrongVolume,
+}
 
-// House number 5: "answer buffer shorter than the bytes to be returned"
-pub const TOO_SHORT: u8 = 5;
-
-// The sense keys: of a refusal, and of attention.
+// The sense key of a refusal.
 const ILLEGAL_REQUEST: u8 = 5;
 
-pub const UNIT_ATTENTION: u8 = 6;
-
 // Why a command is refused with key 5; a field of the block that is at fault, with its byte.
-#[derive(Clone, Copy)]
+#[derive(Clone, Copy, PartialEq, Eq)]
 pub enum Cause {
     InvalidOperation,
     InvalidField(usize),
@@ -46,9 +71,24 @@ pub struct Reply {
     pub count: u32,
 }
 
-// Refused by a house number.
-pub fn numbered(number: u8) -> Reply
-    ensures { result ≡ numberedOf number }
+// Why a command is not carried out: refused with key 5 for a cause, or a reservation conflict.
+#[derive(Clone, Copy, PartialEq, Eq)]
+pub enum Refusal {
+    For(Cause),
+    Conflict,
+}
+
+impl From<Cause> for Refusal {
+    ghost from_gives = { λ cause r. r ≡ For cause };
+
+    fn from(cause: Cause) -> Refusal {
+        Refusal::For(cause)
+    }
+}
+
+// The reply of a number that comes with no others.
+pub fn bare(number: u8) -> Reply
+    ensures { result ≡ bare number }
 {
     Reply {
         number,
@@ -59,76 +99,81 @@ pub fn numbered(number: u8) -> Reply
     }
 }
 
+// Refused by a house number.
+#[tactic(auto, unfolding(crate::specs::Ending::numbered))]
+pub fn numbered(why: House) -> Reply
+    ensures { result ≡ numberedOf why }
+{
+    match why {
+        House::UnsoundTables => bare(1),
+        House::UnknownHost => bare(2),
+        House::BlockLength => bare(3),
+        House::ParameterLength => bare(4),
+        House::ShortBuffer => bare(5),
+        House::UnknownPort => bare(6),
+        House::Prevented { preventers, lowest } => Reply {
+            number: 7,
+            status: 0,
+            preventers,
+            lowest,
+            count: 0,
+        },
+        House::PortContent => bare(8),
+        House::WrongVolume => bare(9),
+    }
+}
+
 // House number 0, with a status and a count of bytes returned.
-pub fn told(status: u8, count: u32) -> Reply
-    ensures { result ≡ told_of status count }
+pub fn told(status: Status, count: u32) -> Reply
+    ensures { result ≡ told_of (code status) count }
 {
     Reply {
         number: 0,
-        status,
+        status: status.code(),
         preventers: 0,
         lowest: 0,
         count,
     }
 }
 
-// An answer cut at the allocation: "the first min(allocation, n) bytes", how many.
-pub fn cut(allocation: usize, n: usize) -> usize
-    ensures { result ≡ min allocation n }
-{
-    wire::least(allocation, n)
-}
-
 // Held, and not by this host.
 pub fn other(host: u8, owner: u8) -> bool
     ensures { result ≡ otherThan host owner }
 {
-    if owner == 0 {
-        return false;
-    }
-    owner != host
+    owner != 0 && owner != host
 }
 
 // Whether another host holds any element.
 pub fn any_other(elements: &[u8], host: u8) -> bool
     ensures { result ≡ any_other elements.now host }
 {
-    let n = tables::element::places(elements);
-    let mut p: usize = 0;
-    while p < n {
-        if other(host, tables::element::holder(elements, p)) {
+    for place in 0..tables::element::places(elements) {
+        if other(host, tables::element::holder(elements, place)) {
             return true;
         }
-        p += 1;
     }
     false
 }
 
 // "first clears its host's sense": GOOD, with nothing else changed.
-pub fn good(head: &mut [u8], host: u8) -> Reply
-    requires head_size_in_bounds { head_size ≤ length head.old }
-    requires host_le_hosts { host ≤ hosts }
-    ensures { (elements : List ℕ) (rest : Rest) (buffer : List ℕ) → ended result (lent head.new elements rest) buffer ≡ outcome (lent head.old elements rest) buffer (goodVerdict host []) }
+pub fn good(head: &mut [u8; layout::HEAD_SIZE], host: Host) -> Reply
+    ensures { (elements : List ℕ) (rest : Rest) (buffer : List ℕ) → ended result (lent head.new elements rest) buffer ≡ outcome (lent head.old elements rest) buffer (goodVerdict host.number []) }
 {
-    tables::head::wipe(head, host);
-    told(GOOD, 0)
+    tables::head::wipe(head, host.number);
+    told(Status::Good, 0)
 }
 
 // CHECK CONDITION with key 5: "then stores the new one"
-fn check(head: &mut [u8], host: u8, asc: u8, ascq: u8) -> Reply
-    requires head_size_in_bounds { head_size ≤ length head.old }
-    requires host_le_hosts { host ≤ hosts }
-    ensures { (elements : List ℕ) (rest : Rest) (buffer : List ℕ) → ended result (lent head.new elements rest) buffer ≡ outcome (lent head.old elements rest) buffer (checkVerdict host 5 asc ascq) }
+fn check(head: &mut [u8; layout::HEAD_SIZE], host: Host, asc: u8, ascq: u8) -> Reply
+    ensures { (elements : List ℕ) (rest : Rest) (buffer : List ℕ) → ended result (lent head.new elements rest) buffer ≡ outcome (lent head.old elements rest) buffer (checkVerdict host.number 5 asc ascq) }
 {
-    tables::head::note(head, host, ILLEGAL_REQUEST, asc, ascq);
-    told(CHECK_CONDITION, 0)
+    tables::head::note(head, host.number, ILLEGAL_REQUEST, asc, ascq);
+    told(Status::CheckCondition, 0)
 }
 
 // Refused with key 5 and the cause's ASC and ASCQ.
-pub fn refuse(head: &mut [u8], host: u8, cause: Cause) -> Reply
-    requires head_size_in_bounds { head_size ≤ length head.old }
-    requires host_le_hosts { host ≤ hosts }
-    ensures { (elements : List ℕ) (rest : Rest) (buffer : List ℕ) → ended result (lent head.new elements rest) buffer ≡ outcome (lent head.old elements rest) buffer (refused host (reason cause)) }
+pub fn refuse(head: &mut [u8; layout::HEAD_SIZE], host: Host, cause: Cause) -> Reply
+    ensures { (elements : List ℕ) (rest : Rest) (buffer : List ℕ) → ended result (lent head.new elements rest) buffer ≡ outcome (lent head.old elements rest) buffer (refused host.number (reason cause)) }
 {
     match cause {
         Cause::InvalidOperation => check(head, host, 0x20, 0x00),
@@ -143,11 +188,20 @@ pub fn refuse(head: &mut [u8], host: u8, cause: Cause) -> Reply
 }
 
 // RESERVATION CONFLICT: the sense is cleared, none is stored.
-pub fn conflict(head: &mut [u8], host: u8) -> Reply
-    requires head_size_in_bounds { head_size ≤ length head.old }
-    requires host_le_hosts { host ≤ hosts }
-    ensures { (elements : List ℕ) (rest : Rest) (buffer : List ℕ) → ended result (lent head.new elements rest) buffer ≡ outcome (lent head.old elements rest) buffer (conflictVerdict host) }
+pub fn conflict(head: &mut [u8; layout::HEAD_SIZE], host: Host) -> Reply
+    ensures { (elements : List ℕ) (rest : Rest) (buffer : List ℕ) → ended result (lent head.new elements rest) buffer ≡ outcome (lent head.old elements rest) buffer (conflictVerdict host.number) }
 {
-    tables::head::wipe(head, host);
-    told(RESERVATION_CONFLICT, 0)
+    tables::head::wipe(head, host.number);
+    told(Status::ReservationConflict, 0)
+}
+
+// Not carried out, for either reason.
+#[tactic(auto, unfolding(crate::specs::Ending::verdict))]
+pub fn refused(head: &mut [u8; layout::HEAD_SIZE], host: Host, why: Refusal) -> Reply
+    ensures { (elements : List ℕ) (rest : Rest) (buffer : List ℕ) → ended result (lent head.new elements rest) buffer ≡ outcome (lent head.old elements rest) buffer (verdict host.number why) }
+{
+    match why {
+        Refusal::For(cause) => refuse(head, host, cause),
+        Refusal::Conflict => conflict(head, host),
+    }
 }

@@ -41,6 +41,10 @@ unfolding width when
 times-width true n h = omega arith
 times-width false n h = omega arith
 
+-- the bytes of a descriptor, and of all of them, are few
+pub few : (tagged : Bool) (n w : ℕ) → w ≡ width tagged → n < 65536 → (w ≤ 52) × (n * w < 3407872)
+few tagged n w e h = rw e ((width_few tagged).1, times-width tagged n h)
+
 pub page-header-length : (tagged : Bool) (kind n : ℕ) (bytes : List ℕ) → length (page_header tagged kind n ++ bytes) ≡ 8 + length bytes
 unfolding page_header three
 page-header-length tagged kind n bytes = omega arith

@@ -1,12 +1,12 @@
 -- The laws of marks: how many places of a run are marked, and how far the m-th of them is. Assumes nothing.
 use Prim.Native.Nat.{ℕ, zero, suc, ◌+◌, ◌-◌, ◌≤◌, ◌<◌, min}
 use native.Mathlib.Nat.{add-zero, zero-add, zero-min, min-zero, suc-min-suc}
-use native.Mathlib.Numerals.{add-one}
 use native.Mathlib.Omega.{arith}
-use mathlib.Core.Path.{◌≡◌, refl, ap, ◌∙◌}
+use mathlib.Core.Path.{◌≡◌, refl, sym, ap, ◌∙◌}
 use mathlib.Core.Bool.{Bool, true, false}
 use mathlib.Core.List.{List, [], ◌∷◌, ◌++◌}
-use lib.ListN.{length, take, get_or-eq_default}
+use lib.ListN.{length, take, drop, get_or, get_or-eq_default, length-take}
+use lib.Seq.{get_or-take, get_or-drop}
 use lib.Dec.{eqb, eqb-suc-zero}
 use borrow.Author.Tests.{eq-eqb, ne_eqb}
 use Rattle.rules.specs.Choice.{when, differ}
@@ -97,22 +97,43 @@ marks-end marks n p ne =
     either (n - k) 0 (λ y. marks-zero marks (n - k) (p + k) y) (λ y. marks-none marks (n - k) (p + k) ne (omega arith)) in
     omega arith
 
--- the next place, marked or not
-marks-next : (marks : List ℕ) (n p : ℕ) → marks_in marks (suc n) p ≡ when (marked_at marks p) (suc (marks_in marks n (suc p))) (marks_in marks n (suc p))
-unfolding marks_in
-marks-next marks n p = refl
+-- those of n places from p on that stand before the end of the marks
+pub marks-part : (marks : List ℕ) (n p k end : ℕ) → (length marks ≡ 0 → ⊥) → end ≡ min (length marks) (p + n) → k ≡ end - min p end
+    → marks_in marks k (min p end) ≡ marks_in marks n p
+marks-part marks n p k end ne e g =
+    let h = marks-end marks n p ne in
+    either k 0
+    (λ z. let a : min (p + n) (length marks) - p ≡ 0 = omega arith in
+    marks-zero marks k (min p end) z ∙ sym (marks-zero marks (min (p + n) (length marks) - p) p a) ∙ h)
+    (λ z. let f : min p end ≡ p = omega arith in let a : k ≡ min (p + n) (length marks) - p = omega arith in rw (f, a) h)
 
-module _ (marks : List ℕ) (i end : ℕ) (ne : length marks ≡ 0 → ⊥) (h : i < end) where
-  from-here : end - i ≡ suc (end - (i + 1))
-  from-here = omega arith
+pub one_in : (marks : List ℕ) (p : ℕ) → marked_at marks p ≡ true → marks_in marks 1 p ≡ 1
+unfolding marks_in when
+one_in marks p e = rw e
 
-  pub count-marked : (byte marks i ≡ 0 → ⊥) → marks_in marks (end - i) i ≡ suc (marks_in marks (end - (i + 1)) (i + 1))
-  unfolding when
-  count-marked b = rw (from-here, add-one i, marks-next marks (end - suc i) i, here-marked marks i ne b)
+pub none_in : (marks : List ℕ) (p : ℕ) → marked_at marks p ≡ false → marks_in marks 1 p ≡ 0
+unfolding marks_in when
+none_in marks p e = rw e
 
-  pub count-not : byte marks i ≡ 0 → marks_in marks (end - i) i ≡ marks_in marks (end - (i + 1)) (i + 1)
-  unfolding when
-  count-not b = rw (from-here, add-one i, marks-next marks (end - suc i) i, here-not marks i ne b)
+-- one place more of those from p on, marked or not
+module _ (marks : List ℕ) (part p i k : ℕ) (ne : length marks ≡ 0 → ⊥) (h : i < length (take part (drop p marks))) (e : k ≡ marks_in marks i p) where
+  mark-is : get_or (take part (drop p marks)) i 0 ≡ byte marks (p + i)
+  unfolding byte
+  mark-is =
+      let l : i < part = omega (arith, length-take part (drop p marks)) in
+      get_or-take part (drop p marks) i 0 l ∙ get_or-drop p marks i 0
+
+  pub count-marked : (get_or (take part (drop p marks)) i 0 ≡ 0 → ⊥) → k + 1 ≡ marks_in marks (i + 1) p
+  count-marked b =
+      let s = marks-split marks i 1 p in
+      let o = one_in marks (p + i) (here-marked marks (p + i) ne (rw mark-is at b)) in
+      omega arith
+
+  pub count-not : get_or (take part (drop p marks)) i 0 ≡ 0 → k ≡ marks_in marks (i + 1) p
+  count-not b =
+      let s = marks-split marks i 1 p in
+      let o = none_in marks (p + i) (here-not marks (p + i) ne (rw mark-is at b)) in
+      omega arith
 
 -- ---- the elements that are marked
 
@@ -140,14 +161,6 @@ marked-one marks k a p e = rw e
 pub marked-not : (marks : List ℕ) (k a p : ℕ) → marked_at marks p ≡ false → marked_of marks k a p 1 ≡ []
 unfolding keep slots when
 marked-not marks k a p e = rw e
-
-pub one_in : (marks : List ℕ) (p : ℕ) → marked_at marks p ≡ true → marks_in marks 1 p ≡ 1
-unfolding marks_in when
-one_in marks p e = rw e
-
-pub none_in : (marks : List ℕ) (p : ℕ) → marked_at marks p ≡ false → marks_in marks 1 p ≡ 0
-unfolding marks_in when
-none_in marks p e = rw e
 
 -- without marks, all
 pub keep-unmarked : (marks : List ℕ) (ss : List Slot) → length marks ≡ 0 → keep (marked marks) ss ≡ ss

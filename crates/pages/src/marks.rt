@@ -1,4 +1,5 @@
-// Marks: a byte for each place, not 0 where the element there is one of those that a listing is of. An empty slice marks every one.
+// Marks: a byte for each place, not 0 where the element there is one of those that a listing is of. An empty slice marks every one, and no
+// `None` beside it, since the definitions of specs/Marks are of lists.
 ghost use Rattle.std.specs.Prelude.{◌≡◌, ◌+◌, ◌<◌};
 ghost use Rattle.pages.specs.Marks.{marked_at, marks_in, reach_of};
 
@@ -6,31 +7,30 @@ ghost use Rattle.pages.specs.Marks.{marked_at, marks_in, reach_of};
 pub fn marked(marks: &[u8], place: usize) -> bool
     ensures { result ≡ marked_at marks.now place }
 {
-    if marks.len() == 0 {
+    if marks.is_empty() {
         return true;
     }
-    if place < marks.len() {
-        return marks[place] != 0;
+    match marks.get(place) {
+        Some(mark) => *mark != 0,
+        None => false,
     }
-    false
 }
 
-// How many of n places are marked, from a place on. The number is counted in 16 bits, of which the compiler adds eight at a time.
+// How many of n places are marked, from a place on. The number is counted in 16 bits, and not by `count` in 64, so that the compiler adds eight at
+// a time.
 pub fn count(marks: &[u8], place: usize, n: usize) -> usize
     requires { (place + n < 16777216) × (n < 65536) }
     ensures { result ≡ marks_in marks.now n place }
 {
-    if marks.len() == 0 {
+    if marks.is_empty() {
         return n;
     }
-    let end = wire::least(place + n, marks.len());
-    let mut i = place;
+    let end = marks.len().min(place + n);
     let mut k: u16 = 0;
-    while i < end {
-        if marks[i] != 0 {
+    for mark in &marks[place.min(end)..end] {
+        if *mark != 0 {
             k += 1;
         }
-        i += 1;
     }
     k as usize
 }
@@ -40,19 +40,17 @@ pub fn reach(marks: &[u8], place: usize, n: usize, m: usize) -> usize
     requires { place + n < 16777216 }
     ensures { result ≡ reach_of marks.now m n place }
 {
-    if marks.len() == 0 {
-        return wire::least(m, n);
+    if marks.is_empty() {
+        return m.min(n);
     }
     let mut left = m;
-    let mut i = 0;
-    while i < n {
+    for i in 0..n {
         if left == 0 {
             return i;
         }
         if marked(marks, place + i) {
             left -= 1;
         }
-        i += 1;
     }
-    i
+    n
 }

@@ -2,41 +2,58 @@
 #![tactic(auto)]
 
 ghost use Rattle.std.specs.Prelude.{◌≡◌, true, List, ℕ};
-ghost use Rattle.rules.specs.Tables.{places, lent, Rest};
+ghost use Rattle.rules.specs.Tables.{places, mask, lent, Rest};
 ghost use Rattle.rules.specs.Sound.{sound};
 ghost use Rattle.rules.specs.Events.{present as presentIn, wrong_volume, importing, exporting};
-ghost use Rattle.ports.specs.Judged.{prevented_by, meaning, Within, Ported, Importable};
+ghost use Rattle.tables.specs.Ranges.{laid};
+ghost use Rattle.tables.specs.LookUp.{found};
+ghost use Rattle.tables.specs.declared.Types.TheVariants.{Port};
+ghost use Rattle.ports.specs.Judged.{prevented_by, port_by, meaning, Within, Ported, Importable};
 
-use tables::{Found, Range, Types};
+use order::House;
+use tables::{Range, Types};
 
-// What import or export comes to: a house number, number 7 with how many hosts prevent removal and the lowest such host, or an element
-// to fill with a volume (0 empties it) and a mark.
-#[derive(Clone, Copy)]
-pub enum Ruling {
-    Number(u8),
-    Prevented(u8, u8),
-    Fill { place: usize, volume: u16, mark: u8 },
+// The element to fill, with which volume (0 empties it) and which mark.
+#[derive(Clone, Copy, PartialEq, Eq)]
+pub struct Fill {
+    pub place: usize,
+    pub volume: u16,
+    pub mark: u8,
 }
 
 // "how many hosts prevent removal and the lowest such host"
-fn prevented(mask: u8) -> Ruling
+fn prevented(mask: u8) -> House
     requires { mask ≡ 0 → ⊥ }
     ensures { result ≡ prevented_by mask }
 {
-    Ruling::Prevented(tables::mask::preventers(mask), tables::mask::lowest(mask))
+    House::Prevented {
+        preventers: tables::mask::preventers(mask),
+        lowest: tables::mask::lowest(mask),
+    }
+}
+
+// The place of an import/export element that no host keeps shut: numbers 6 and 7.
+fn open_port(runs: [Range; 4], head: &[u8; layout::HEAD_SIZE], address: u32) -> Result<usize, House>
+    ensures { result ≡ port_by (found Port (laid runs) address) (mask head.now) }
+{
+    let Some(place) = tables::find(runs, address, Types::Port) else {
+        return Err(House::UnknownPort);
+    };
+    let mask = tables::head::mask(head);
+    if mask != 0 {
+        return Err(prevented(mask));
+    }
+    Ok(place)
 }
 
 // "already in the library"
 fn present(elements: &[u8], volume: u32) -> bool
     ensures { result ≡ presentIn elements.now volume }
 {
-    let n = tables::element::places(elements);
-    let mut place: usize = 0;
-    while place < n {
+    for place in 0..tables::element::places(elements) {
         if tables::element::volume(elements, place) as u32 == volume {
             return true;
         }
-        place += 1;
     }
     false
 }
@@ -57,56 +74,48 @@ fn wrong_volume(elements: &[u8], tags: &[u8], volume: u32) -> bool
 // Import, judged by reading only: numbers 6 to 9 in this order.
 pub fn judge_import(
     runs: [Range; 4],
-    head: &[u8],
+    head: &[u8; layout::HEAD_SIZE],
     elements: &[u8],
     tags: &[u8],
     address: u32,
     volume: u32,
-) -> Ruling
+) -> Result<Fill, House>
     requires { Importable runs head.now elements.now tags.now }
     ensures result_value { (rest : Rest) → rest.tags ≡ tags.now → sound (lent head.now elements.now rest) ≡ true → meaning result ≡ importing (lent head.now elements.now rest) address volume }
     ensures within { Within (places elements.now) result }
 {
-    let Found::At(to) = tables::find(runs, address, Types::Port) else {
-        return Ruling::Number(6);
-    };
-    let mask = tables::head::mask(head);
-    if mask != 0 {
-        return prevented(mask);
-    }
+    let to = open_port(runs, head, address)?;
     if tables::element::volume(elements, to) != 0 {
-        return Ruling::Number(8);
+        return Err(House::PortContent);
     }
     if wrong_volume(elements, tags, volume) {
-        return Ruling::Number(9);
+        return Err(House::WrongVolume);
     }
-    let number = volume as u16;
-    Ruling::Fill {
+    Ok(Fill {
         place: to,
-        volume: number,
+        volume: volume as u16,
         mark: 1,
-    }
+    })
 }
 
 // Export, judged by reading only: numbers 6 to 8 in this order.
-pub fn judge_export(runs: [Range; 4], head: &[u8], elements: &[u8], address: u32) -> Ruling
+pub fn judge_export(
+    runs: [Range; 4],
+    head: &[u8; layout::HEAD_SIZE],
+    elements: &[u8],
+    address: u32,
+) -> Result<Fill, House>
     requires { Ported runs head.now elements.now }
     ensures result_value { (rest : Rest) → sound (lent head.now elements.now rest) ≡ true → meaning result ≡ exporting (lent head.now elements.now rest) address }
     ensures within { Within (places elements.now) result }
 {
-    let Found::At(from) = tables::find(runs, address, Types::Port) else {
-        return Ruling::Number(6);
-    };
-    let mask = tables::head::mask(head);
-    if mask != 0 {
-        return prevented(mask);
-    }
+    let from = open_port(runs, head, address)?;
     if tables::element::volume(elements, from) == 0 {
-        return Ruling::Number(8);
+        return Err(House::PortContent);
     }
-    Ruling::Fill {
+    Ok(Fill {
         place: from,
         volume: 0,
         mark: 0,
-    }
+    })
 }

@@ -21,6 +21,7 @@ pub struct Step {
 }
 
 // The work, on a plain list and a place.
+#[tactic(auto, unfolding(crate::specs::Read::step_at))]
 fn descriptor_at(list: &[u8], at: usize) -> Step
     requires { at + descriptor_size ≤ length list.now }
     ensures { result ≡ step_at list.now at }
@@ -33,12 +34,14 @@ fn descriptor_at(list: &[u8], at: usize) -> Step
     }
 }
 
-// What the reader stands at. Whoever goes on makes the next reader at the place after it.
-pub fn next<'a>(r: Reader<'a>) -> Step
-    requires { r.at + descriptor_size ≤ length r.list.now }
-    ensures { result ≡ step_at r.entry.list.now r.entry.at }
-{
-    descriptor_at(r.list, r.at)
+impl<'a> Reader<'a> {
+    // What the reader stands at. Whoever goes on makes the next reader at the place after it.
+    pub fn next(self) -> Step
+        requires { self.at + descriptor_size ≤ length self.list.now }
+        ensures { result ≡ step_at self.entry.list.now self.entry.at }
+    {
+        descriptor_at(self.list, self.at)
+    }
 }
 
 // The reader is made and read: its contract says nothing of a reader, so callers need no proof by hand.
@@ -46,5 +49,5 @@ pub fn read_at(list: &[u8], at: usize) -> Step
     requires { at + descriptor_size ≤ length list.now }
     ensures { result ≡ step_at list.now at }
 {
-    next(Reader { list, at })
+    Reader { list, at }.next()
 }

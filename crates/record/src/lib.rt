@@ -13,36 +13,18 @@ pub struct Sense {
     pub ascq: u8,
 }
 
-fn store(s: &mut Sense, key: u8, asc: u8, ascq: u8)
-    ensures { s.new ≡ sense_of key asc ascq }
-{
-    s.key = key;
-    s.asc = asc;
-    s.ascq = ascq;
-}
+impl Sense {
+    fn store(&mut self, key: u8, asc: u8, ascq: u8)
+        ensures { self.new ≡ sense_of key asc ascq }
+    {
+        *self = Sense { key, asc, ascq };
+    }
 
-fn clear(s: &mut Sense)
-    ensures { s.new ≡ sense_of 0 0 0 }
-{
-    s.key = 0;
-    s.asc = 0;
-    s.ascq = 0;
-}
-
-// The record is lent, and handed back as `store` left it.
-fn stored(mut s: Sense, key: u8, asc: u8, ascq: u8) -> Sense
-    ensures { result ≡ sense_of key asc ascq }
-{
-    store(&mut s, key, asc, ascq);
-    s
-}
-
-// The record is lent, and handed back as `clear` left it.
-fn cleared(mut s: Sense) -> Sense
-    ensures { result ≡ sense_of 0 0 0 }
-{
-    clear(&mut s);
-    s
+    fn clear(&mut self)
+        ensures { self.new ≡ sense_of 0 0 0 }
+    {
+        self.store(0, 0, 0);
+    }
 }
 
 // The record in the three bytes from a place on.
@@ -61,7 +43,7 @@ fn put_sense(head: &mut [u8], at: usize, s: Sense)
     requires { at + 3 ≤ length head.old }
     ensures { head.new ≡ put head.old at (bytes_of s) }
 {
-    wire::put_three(head, at, s.key, s.asc, s.ascq);
+    wire::put(head, at, [s.key, s.asc, s.ascq]);
 }
 
 // "CHECK CONDITION then stores the new one": the record at a place is key, ASC, ASCQ.
@@ -69,7 +51,8 @@ pub fn note(head: &mut [u8], at: usize, key: u8, asc: u8, ascq: u8)
     requires { at + 3 ≤ length head.old }
     ensures { head.new ≡ put head.old at (key ∷ asc ∷ ascq ∷ []) }
 {
-    let s = stored(sense_at(head, at), key, asc, ascq);
+    let mut s = sense_at(head, at);
+    s.store(key, asc, ascq);
     put_sense(head, at, s);
 }
 
@@ -78,6 +61,7 @@ pub fn wipe(head: &mut [u8], at: usize)
     requires { at + 3 ≤ length head.old }
     ensures { head.new ≡ put head.old at (0 ∷ 0 ∷ 0 ∷ []) }
 {
-    let s = cleared(sense_at(head, at));
+    let mut s = sense_at(head, at);
+    s.clear();
     put_sense(head, at, s);
 }

@@ -3,13 +3,15 @@ use Prim.Native.Nat.{ℕ, suc, ◌+◌, ◌-◌, ◌<◌, ◌≤◌}
 use native.Mathlib.Omega.{arith}
 use mathlib.Core.Path.{◌≡◌, refl, sym, ap, ◌∙◌}
 use mathlib.Core.Logic.{◌≢◌}
-use mathlib.Core.Bool.{Bool, true, false}
+use mathlib.Core.Bool.{true, false}
 use mathlib.Core.List.{List}
 use lib.ListN.{length, drop, length-drop}
 use lib.Seq.{drop-drop}
-use Rattle.rules.specs.Tables.{Tables, Rest, lent, searching}
+use Rattle.rules.specs.Tables.{Tables, Rest, lent, searching, head_size, search_size}
 use Rattle.rules.specs.Roster.{ranges, sorted}
 use Rattle.rules.specs.Sound.{sound}
+use Rattle.rules.proofs.Soundness.{sound-true}
+use Rattle.acts.proofs.Supply.{search-long}
 use Rattle.rules.specs.Log.{LINE-FEED, first_of, before, Line, Other, Entry, line_of}
 use Rattle.rules.specs.Replay.{Turn, turn_on, turn, Replayed, stopped, ahead, turns, replay}
 use Rattle.rules.proofs.Ladder.{yes, no, on, never}
@@ -17,8 +19,9 @@ use Rattle.rules.proofs.Replaying.{applied-is, turn-sound, turn-ranges, turns-te
 use Rattle.tables.specs.declared.Range.{Range}
 use Rattle.tables.specs.Ranges.{Runs}
 use Rattle.log_steps.specs.Recorded.{Given}
-use Rattle.log_call.specs.declared.Turned.{Turned}
-use Rattle.log_call.specs.declared.Turned.TheVariants.{Stopped, Applied}
+use Rattle.std.specs.Prelude.{Option, Some, None}
+use Rattle.tables.specs.declared.Fixed.{Fixed}
+use Rattle.tables.specs.Lent.{rest_of}
 use Rattle.log_call.specs.Turned.{Kept, turned, Taken}
 use Rattle.replay.specs.declared.Replayed.{Replayed as Told}
 use Rattle.replay.specs.Ended.{ended}
@@ -59,10 +62,12 @@ module _ (t₀ : Tables) (log : List ℕ) (e₀ budget : ℕ) where
     abbrev Ends : ℕ → Tables → Type 0
     Ends n u = record { number = n; lines = lines; place = place; expected = next; tables = u } ≡ turns budget t₀ log e₀
 
-    pub all_done : budget ≤ lines → Ends 0 t
+    pub all_done : budget ≡ lines → record { number = 0; lines = budget; place = place; expected = next; tables = t } ≡ turns budget t₀ log e₀
     all_done h =
         let k : budget - lines ≡ 0 = omega arith in
-        sym (inv ∙ rw k (unfold turns in ahead-stopped lines place 0 next t))
+        let e : turns budget t₀ log e₀ ≡ record { number = 0; lines = lines; place = place; expected = next; tables = t }
+        = inv ∙ rw k (unfold turns in ahead-stopped lines place 0 next t) in
+        ap (λ (n : ℕ). record { number = 0; lines = n; place = place; expected = next; tables = t }) h ∙ sym e
 
     module _ (more : lines < budget) where
       one_more : budget - lines ≡ suc (budget - (lines + 1))
@@ -75,15 +80,14 @@ module _ (t₀ : Tables) (log : List ℕ) (e₀ budget : ℕ) where
           sym (inv ∙ rw g (ahead-stopped lines place 0 next t))
 
       module _ (within : place ≤ length log) (some : place ≡ length log → ⊥) (text : List ℕ) (te : text ≡ drop place log)
-          (r : Turned) (u : Tables) (ue : turned r u ≡ turn t next text) where
+          (r : Option ℕ) (u : Tables) (ue : turned r u ≡ turn t next text) where
         left : length (drop place log) ≢ 0
         left h = some (omega (arith, length-drop place log))
 
         here : turned r u ≡ turn t next (drop place log)
         here = rw te at ue
 
-        pub ten : r ≡ Stopped → Ends 10 u
-        unfolding turned
+        pub ten : r ≡ None → Ends 10 u
         ten i =
             let y : record { applied = false; tables = u } ≡ turn t next (drop place log) = rw i at here in
             let z : (turn t next (drop place log)).applied ≡ false = sym (ap (λ (x : Turn). x.applied) y) in
@@ -91,16 +95,14 @@ module _ (t₀ : Tables) (log : List ℕ) (e₀ budget : ℕ) where
             let g : turns (budget - lines) t (drop place log) next ≡ stopped 10 next u = rw (one_more, v) (turns-ten _ t _ next left z) in
             sym (inv ∙ rw g (ahead-stopped lines place 10 next u))
 
-        module _ (n : ℕ) (i : r ≡ Applied n) (takes : Taken r text) where
+        module _ (n : ℕ) (i : r ≡ Some n) (takes : Taken r text) where
           applied : record { applied = true; tables = u } ≡ turn t next (drop place log)
-          unfolding turned
           applied = rw i at here
 
           is-applied : (turn t next (drop place log)).applied ≡ true
           is-applied = sym (ap (λ (x : Turn). x.applied) applied)
 
           takes-here : (n ≡ first_of LINE-FEED (drop place log) + 1) × (n ≤ length (drop place log))
-          unfolding Taken
           takes-here = rw (te, i) at takes
 
           pub went : Went log place next n
@@ -120,13 +122,13 @@ module _ (t₀ : Tables) (log : List ℕ) (e₀ budget : ℕ) where
 
 -- ---- "checked once": a line leaves sound tables sound, and the ranges as they are
 
-module _ (t u : Tables) (e : ℕ) (s : List ℕ) (r : Turned) (i : turned r u ≡ turn t e s) where
+module _ (t u : Tables) (e : ℕ) (s : List ℕ) (r : Option ℕ) (i : turned r u ≡ turn t e s) where
   left_is : u ≡ (turn t e s).tables
   left_is = of r ∙ ap (λ (x : Turn). x.tables) i
     where
-      of : (q : Turned) → u ≡ (turned q u).tables
-      of Stopped = unfold turned in refl
-      of (Applied n) = unfold turned in refl
+      of : (q : Option ℕ) → u ≡ (turned q u).tables
+      of None = refl
+      of (Some n) = refl
 
   pub still-sound : sound t ≡ true → sound u ≡ true
   still-sound k = rw left_is (turn-sound t e s k)
@@ -137,49 +139,77 @@ module _ (t u : Tables) (e : ℕ) (s : List ℕ) (r : Turned) (i : turned r u �
 -- ---- the loop
 
 -- of every rest that has what a line reads, and with which the tables were sound
-abbrev pub Every : (head₀ elements₀ tags generations masks search₀ : List ℕ) → (Rest → Type 0) → Type 0
-Every head₀ elements₀ tags generations masks search₀ P =
-    (rest : Rest) → Given rest tags generations masks → sound (lent head₀ elements₀ (searching rest search₀)) ≡ true → P rest
+abbrev pub Every : (head₀ elements₀ : List ℕ) (fixed : Fixed) (search₀ : List ℕ) → (Rest → Type 0) → Type 0
+Every head₀ elements₀ fixed search₀ P = (rest : Rest) → Given rest fixed → sound (lent head₀ elements₀ (searching rest search₀)) ≡ true → P rest
 
-pub record Going (head₀ elements₀ tags generations masks search₀ log : List ℕ) (expected budget : ℕ) (runs : List Range) (head elements search block list : List ℕ) (lines place next : ℕ) : Type 0 where
-  pub kept-head : length head ≡ length head₀
-  pub kept-elements : length elements ≡ length elements₀
-  pub kept-search : length search ≡ length search₀
+pub record Going (head₀ elements₀ : List ℕ) (fixed : Fixed) (search₀ log : List ℕ) (expected budget : ℕ) (runs : List Range) (head elements search : List ℕ) (lines place next : ℕ) : Type 0 where
   pub runs-are : Runs runs head
-  pub sound-still : Every head₀ elements₀ tags generations masks search₀ (λ rest. sound (lent head elements (searching rest search)) ≡ true)
-  pub block_room : length block ≡ 256
-  pub list-room : length list ≡ 256
-  pub within-budget : lines ≤ budget
+  pub sound-still : Every head₀ elements₀ fixed search₀ (λ rest. sound (lent head elements (searching rest search)) ≡ true)
   pub inside : place ≤ length log
-  pub stands : Every head₀ elements₀ tags generations masks search₀
+  pub stands : Every head₀ elements₀ fixed search₀
       (λ rest. Stands (lent head₀ elements₀ (searching rest search₀)) log expected budget (lent head elements (searching rest search)) lines place next)
 
 -- what was kept until a line that was then applied
-module _ (head₀ elements₀ tags generations masks search₀ log : List ℕ) (expected budget : ℕ) (runs : List Range) (head elements search block list : List ℕ) (lines place next : ℕ)
-    (g : Going head₀ elements₀ tags generations masks search₀ log expected budget runs head elements search block list lines place next)
-    (k : Kept runs head₀ elements₀ tags generations masks search₀) (more : lines < budget) (some : place ≡ length log → ⊥) where
-  pub went_on : (text : List ℕ) → text ≡ drop place log → (r : Turned) (head' elements' search' : List ℕ)
-      → ((rest : Rest) → Given rest tags generations masks → sound (lent head elements (searching rest search)) ≡ true
+module _ (head₀ elements₀ : List ℕ) (fixed : Fixed) (search₀ log : List ℕ) (expected budget : ℕ) (runs : List Range) (head elements search : List ℕ) (lines place next : ℕ)
+    (g : Going head₀ elements₀ fixed search₀ log expected budget runs head elements search lines place next)
+    (k : Kept runs head₀ elements₀ fixed search₀) (more : lines < budget) (some : place ≡ length log → ⊥) where
+  pub kept-on : Kept runs head elements fixed search
+  kept-on = record { rest = k.rest; given = k.given; sound-now = g.sound-still k.rest k.given k.sound-now; runs-are = g.runs-are }
+
+  module _ (text : List ℕ) (te : text ≡ drop place log) (r : Option ℕ) (head' elements' search' : List ℕ)
+      (after : (rest : Rest) → Given rest fixed → sound (lent head elements (searching rest search)) ≡ true
       → turned r (lent head' elements' (searching rest search')) ≡ turn (lent head elements (searching rest search)) next text)
-      → (n : ℕ) → r ≡ Applied n → Taken r text → Went log place next n
-  went_on text te r head' elements' search' after n i takes =
-      went (lent head₀ elements₀ (searching k.rest search₀)) log expected budget (lent head elements (searching k.rest search)) lines place next
-      (g.stands k.rest k.given k.sound-now) more g.inside some text te r (lent head' elements' (searching k.rest search'))
-      (after k.rest k.given (g.sound-still k.rest k.given k.sound-now)) n i takes
+      (n : ℕ) (i : r ≡ Some n) (takes : Taken r text) where
+    pub went_on : Went log place next n
+    went_on =
+        went (lent head₀ elements₀ (searching k.rest search₀)) log expected budget (lent head elements (searching k.rest search)) lines place next
+        (g.stands k.rest k.given k.sound-now) more g.inside some text te r (lent head' elements' (searching k.rest search'))
+        (after k.rest k.given (g.sound-still k.rest k.given k.sound-now)) n i takes
+
+    pub goes_on : Going head₀ elements₀ fixed search₀ log expected budget runs head' elements' search' (lines + 1) (place + n) (next + 1)
+    goes_on =
+        record {
+          runs-are = still-runs (lent head elements (searching k.rest search)) (lent head' elements' (searching k.rest search')) next text r (after k.rest k.given (g.sound-still k.rest k.given k.sound-now)) runs g.runs-are;
+          sound-still = λ rest h s. still-sound (lent head elements (searching rest search)) (lent head' elements' (searching rest search')) next text r (after rest h (g.sound-still rest h s)) (g.sound-still rest h s);
+          inside = omega (arith, went_on.inside);
+          stands = λ rest h s. onward (lent head₀ elements₀ (searching rest search₀)) log expected budget (lent head elements (searching rest search)) lines place next (g.stands rest h s) more g.inside some text te r (lent head' elements' (searching rest search')) (after rest h (g.sound-still rest h s)) n i takes;
+        }
 
 -- ---- the whole
 
--- what the first line finds
-abbrev pub first-kept : (head elements : List ℕ) (rest : Rest) (b : Bool) → b ≡ sound (lent head elements rest) → b ≡ true → (runs : List Range) → Runs runs head
-    → Kept runs head elements rest.tags rest.generations rest.masks rest.search
-first-kept head elements rest b i f runs is =
-    record { rest = rest; given = record { tags-is = refl; generations-is = refl; masks-is = refl }; sound-now = sym i ∙ f; runs-are = is }
+module _ (head elements : List ℕ) (fixed : Fixed) (search : List ℕ) (s : sound (lent head elements (rest_of fixed search)) ≡ true) where
+  -- what the first line finds
+  pub first-kept : (runs : List Range) → Runs runs head → Kept runs head elements fixed search
+  first-kept runs is =
+      record { rest = rest_of fixed search; given = record { tags-is = refl; generations-is = refl; masks-is = refl }; sound-now = s; runs-are = is }
 
-module _ (t : Tables) (log : List ℕ) (e budget : ℕ) (b : Bool) (i : b ≡ sound t) where
-  pub unsound : b ≡ false → stopped 1 e t ≡ replay t log e budget
-  unfolding replay
-  unsound f = no _ _ _ _ _ i f refl
+  -- "sound": the head and the search are whole
+  pub head-whole : length head ≡ head_size
+  head-whole = (sound-true (lent head elements (rest_of fixed search)) s).head-fits.length-is
 
-  pub replayed : b ≡ true → (r : Replayed) → r ≡ turns budget t log e → r ≡ replay t log e budget
+  pub search-whole : length search ≡ search_size
+  search-whole = search-long head elements (rest_of fixed search) s
+
+module _ (t : Tables) (log : List ℕ) (e budget : ℕ) where
+  pub unsound : sound t ≡ false → stopped 1 e t ≡ replay t log e budget
   unfolding replay
-  replayed f r j = yes _ _ _ _ _ i f j
+  unsound f = no _ _ _ _ _ refl f refl
+
+  pub replayed : sound t ≡ true → (r : Replayed) → r ≡ turns budget t log e → r ≡ replay t log e budget
+  unfolding replay
+  replayed f r j = yes _ _ _ _ _ refl f j
+
+-- what the lines come to, from a head and a search that are those which were checked
+module _ (head elements : List ℕ) (fixed : Fixed) (search : List ℕ) (s : sound (lent head elements (rest_of fixed search)) ≡ true)
+    (head' search' : List ℕ) (same : head' ≡ head) (also : search' ≡ search) where
+  pub kept-whole : (runs : List Range) → Runs runs head → Kept runs head' elements fixed search'
+  kept-whole runs is = rw (same, also) (first-kept head elements fixed search s runs is)
+
+  pub ends_whole : (r : Told) (h e x log : List ℕ) (expected budget : ℕ)
+      → ((rest : Rest) → Given rest fixed → sound (lent head' elements (searching rest search')) ≡ true → ended r (lent h e (searching rest x)) ≡ turns budget (lent head' elements (searching rest search')) log expected)
+      → ended r (lent h e (rest_of fixed x)) ≡ replay (lent head elements (rest_of fixed search)) log expected budget
+  ends_whole r h e x log expected budget after =
+      let given : Given (rest_of fixed search) fixed = record { tags-is = refl; generations-is = refl; masks-is = refl } in
+      let still : sound (lent head' elements (rest_of fixed search')) ≡ true = rw (same, also) s in
+      let told : ended r (lent h e (rest_of fixed x)) ≡ turns budget (lent head' elements (rest_of fixed search')) log expected = after (rest_of fixed search) given still in
+      replayed (lent head elements (rest_of fixed search)) log expected budget s _ (rw (same, also) at told)

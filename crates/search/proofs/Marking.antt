@@ -79,7 +79,7 @@ module _ (runs : List Code) (es tags search marks₀ : List ℕ) where
     pub so_far : (m : List ℕ) → ((q : ℕ) → q < place → byte m q ≡ byte marks q)
         → Shows (finds es tags search) m (spread place (drop k (meant runs))) → Shows (finds es tags search) m (spread 0 (meant runs))
 
-  module _ (pre : Searchable (meant runs) es tags search marks₀) where
+  module _ (pre : Searchable (meant runs) es tags marks₀) where
     pub marking_begins : Marking marks₀ 0 0
     marking_begins =
         record {
@@ -96,7 +96,7 @@ module _ (runs : List Code) (es tags search marks₀ : List ℕ) where
         unfolding total
         here = let e = rw (meant-from runs k four h) at at.long in omega arith
 
-        pub marking-run : RunSearchable (meaning (get_or runs k none)) place es tags search marks
+        pub marking-run : RunSearchable (meaning (get_or runs k none)) place es tags marks
         marking-run =
             let e = here in
             let stands = pre.stands in
@@ -105,7 +105,6 @@ module _ (runs : List Code) (es tags search marks₀ : List ℕ) where
             record {
               stands = omega arith;
               labels = pre.labels;
-              whole = pre.whole;
               enough = omega arith;
               unmarked = at.unmarked;
             }

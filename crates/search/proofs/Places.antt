@@ -82,7 +82,7 @@ module _ (es tags search : List ℕ) where
 
   -- ---- a run
 
-  module _ (r : Range) (place : ℕ) (marks : List ℕ) (pre : RunSearchable r place es tags search marks) (l : Bool)
+  module _ (r : Range) (place : ℕ) (marks : List ℕ) (pre : RunSearchable r place es tags marks) (l : Bool)
       (is : (a p : ℕ) → l ≡ looks_for search (slot r.kind a p)) where
     -- of a type that the search is not for, or no search
     pub run-passed : not l ≡ true → RunMarked r place es tags search marks marks

@@ -2,7 +2,7 @@
 use Rattle.std.specs.Prelude.{ℕ, ◌+◌, ◌*◌, ◌-◌, ◌<◌, ◌≤◌, ◌≡◌, ◌≢◌, List, [], ◌∷◌, Bool, true, length, take, drop, T, eqb}
 use Rattle.rules.specs.Choice.{when, any_of, all_of, differ}
 use Rattle.rules.specs.Bytes.{byte, put}
-use Rattle.rules.specs.Tables.{Tables, element_at, element_size, tag_size, template_size, search_size, volume, search_type, action, next_address}
+use Rattle.rules.specs.Tables.{Tables, element_at, element_size, tag_size, template_size, volume, search_type, action, next_address}
 use Rattle.rules.specs.Roster.{Range, Slot}
 use Rattle.rules.specs.Ranges.{total}
 use Rattle.rules.specs.Listing.{of_type, at_or_above}
@@ -29,10 +29,9 @@ abbrev pub AllLabelled : List ℕ → List ℕ → Type 0
 AllLabelled elements tags = (p : ℕ) → element_at p + element_size ≤ length elements → tag_size * volume elements p ≤ length tags
 
 -- what marking stands on: a record for each element of the ranges, a label for each volume, and marks enough, none of them made
-pub record Searchable (rs : List Range) (elements tags search marks : List ℕ) : Type 0 where
+pub record Searchable (rs : List Range) (elements tags marks : List ℕ) : Type 0 where
   pub stands : element_at (total rs) ≤ length elements
   pub labels : AllLabelled elements tags
-  pub whole : length search ≡ search_size
   pub enough : total rs ≤ length marks
   pub unmarked : (q : ℕ) → byte marks q ≡ 0
 
@@ -88,9 +87,8 @@ pub record RunMarked (r : Range) (place : ℕ) (elements tags search before afte
   pub behind : (q : ℕ) → place + r.count ≤ q → byte after q ≡ byte before q
 
 -- what marking a run stands on
-pub record RunSearchable (r : Range) (place : ℕ) (elements tags search marks : List ℕ) : Type 0 where
+pub record RunSearchable (r : Range) (place : ℕ) (elements tags marks : List ℕ) : Type 0 where
   pub stands : element_at (place + r.count) ≤ length elements
   pub labels : AllLabelled elements tags
-  pub whole : length search ≡ search_size
   pub enough : place + r.count ≤ length marks
   pub unmarked : (q : ℕ) → place ≤ q → byte marks q ≡ 0

@@ -1,10 +1,10 @@
 // "Find by label": SEND VOLUME TAG, the bytes of the search, and which elements it finds.
 #![tactic(auto)]
 
-ghost use Rattle.std.specs.Prelude.{◌≡◌, List, [], ◌∷◌, ℕ, ◌+◌, ◌*◌, ◌-◌, ◌≤◌, length, eqb};
+ghost use Rattle.std.specs.Prelude.{◌≡◌, List, [], ◌∷◌, ℕ, ◌*◌, ◌-◌, ◌≤◌, length, eqb};
 ghost use Rattle.rules.specs.Choice.{each, any_of, below};
 ghost use Rattle.rules.specs.Bytes.{put, three};
-ghost use Rattle.rules.specs.Tables.{Tables, Rest, lent, searching, head_size, hosts, element_at, tag_size, template_size, search_size, behind_last, next_at};
+ghost use Rattle.rules.specs.Tables.{Tables, Rest, lent, searching, element_at, tag_size, template_size, behind_last, next_at};
 ghost use Rattle.rules.specs.Roster.{spread};
 ghost use Rattle.rules.specs.Order.{outcome};
 ghost use Rattle.rules.specs.Search.{ANY-CHARACTER, reserved_tags, search_for, send_tag, no_search, agrees_from, in_range, label_matches};
@@ -13,7 +13,7 @@ ghost use Rattle.order.specs.Ending.{ended};
 ghost use Rattle.search.specs.Marks.{Marked, Sought, AllLabelled, Searchable, asks, goes, Cared, volume_fits, looks_for, slot, marked_at, RunMarked, RunSearchable};
 
 use order::{Cause, Reply};
-use tables::Range;
+use tables::{Host, Range};
 
 // "'*' will match any string of characters"; "'?' will match any single character"
 const ANY_STRING: u8 = b'*';
@@ -52,67 +52,8 @@ fn asked(own: u8) -> u8
     1
 }
 
-// The template, at the front of the search, made ready once for all labels: which of its bytes ask for themselves, and how many come before the first '*': "When it appears in a template the remainder of the template .. is not used."
-fn cares(search: &[u8], care: &mut [u8]) -> usize
-    requires { (template_size ≤ length search.now) × (length care.old ≡ template_size) }
-    ensures { Cared search.now care.new result }
-{
-    let mut i: usize = 0;
-    while i < layout::TEMPLATE_SIZE {
-        if search[i] == ANY_STRING {
-            return i;
-        }
-        care[i] = asked(search[i]);
-        i += 1;
-    }
-    layout::TEMPLATE_SIZE
-}
-
-// The first k bytes go with those of a label; the first that does not is the last looked at.
-fn all_alike(search: &[u8], label: &[u8], k: usize) -> bool
-    requires { (k ≤ length search.now) × (k ≤ length label.now) }
-    ensures { result ≡ below k (goes search.now label.now) }
-{
-    let mut i: usize = 0;
-    while i < k {
-        if !alike(search[i], label[i]) {
-            return false;
-        }
-        i += 1;
-    }
-    true
-}
-
-// The same with no way out before the end, so that the compiler takes 16 bytes at a time.
-fn none_missed(search: &[u8], label: &[u8], care: &[u8], k: usize) -> bool
-    requires { (template_size ≤ length search.now) × ((template_size ≤ length label.now) × Cared search.now care.now k) }
-    ensures { result ≡ below k (goes search.now label.now) }
-{
-    let mut missed: u8 = 0;
-    let mut i: usize = 0;
-    while i < k {
-        if search[i] != label[i] {
-            missed += care[i];
-        }
-        i += 1;
-    }
-    missed == 0
-}
-
-// The template agrees with a label.
-fn agrees(search: &[u8], label: &[u8], care: &[u8], k: usize) -> bool
-    requires { (template_size ≤ length search.now) × ((template_size ≤ length label.now) × Cared search.now care.now k) }
-    ensures { result ≡ agrees_from search.now label.now template_size 0 }
-{
-    if k < AT_ONCE {
-        return all_alike(search, label, k);
-    }
-    none_missed(search, label, care, k)
-}
-
 // A label's sequence number is in the search's range; 5h: "ignore sequence numbers"
-fn in_range(search: &[u8], label: &[u8]) -> bool
-    requires { (length search.now ≡ search_size) × (tag_size ≤ length label.now) }
+fn in_range(search: &[u8; layout::SEARCH_SIZE], label: &[u8; layout::TAG_SIZE]) -> bool
     ensures { result ≡ in_range search.now label.now }
 {
     if search[layout::ACTION] != layout::IN_RANGE {
@@ -125,36 +66,100 @@ fn in_range(search: &[u8], label: &[u8]) -> bool
     number <= wire::word_at(search, layout::GREATEST)
 }
 
-fn label_matches(search: &[u8], label: &[u8], care: &[u8], k: usize) -> bool
-    requires search_len { (length search.now ≡ search_size) × (tag_size ≤ length label.now) }
-    requires cared { Cared search.now care.now k }
-    ensures { result ≡ label_matches search.now label.now }
-{
-    if agrees(search, label, care, k) {
-        return in_range(search, label);
-    }
-    false
+// A search's template, made ready once for all labels: which of its bytes ask for themselves, and how many come before the first '*': "When it appears in a
+// template the remainder of the template .. is not used."
+#[derive(Drop)]
+struct Template<'a> {
+    search: &'a [u8; layout::SEARCH_SIZE],
+    care: [u8; layout::TEMPLATE_SIZE],
+    used: usize,
+    ghost ready: { Cared search.now care used },
 }
 
-// A volume's label matches: "only full elements match".
-fn volume_fits(tags: &[u8], search: &[u8], care: &[u8], k: usize, volume: u16) -> bool
-    requires search_len { (length search.now ≡ search_size) × (tag_size * volume ≤ length tags.now) }
-    requires cared { Cared search.now care.now k }
-    ensures { result ≡ volume_fits tags.now search.now volume }
-{
-    if volume == 0 {
-        return false;
+impl<'a> Template<'a> {
+    fn of(search: &'a [u8; layout::SEARCH_SIZE]) -> Template<'a>
+        ensures { result.search.now ≡ search.now }
+    {
+        let mut care = [0u8; layout::TEMPLATE_SIZE];
+        for i in 0..layout::TEMPLATE_SIZE {
+            if search[i] == ANY_STRING {
+                return Template {
+                    search,
+                    care,
+                    used: i,
+                };
+            }
+            care[i] = asked(search[i]);
+        }
+        Template {
+            search,
+            care,
+            used: layout::TEMPLATE_SIZE,
+        }
     }
-    let from = layout::TAG_SIZE * ((volume - 1) as usize);
-    let to = from + layout::TAG_SIZE;
-    label_matches(search, &tags[from..to], care, k)
+
+    // The bytes that are used go with those of a label; the first that does not is the last looked at.
+    fn all_alike(&self, label: &[u8; layout::TAG_SIZE]) -> bool
+        ensures { result ≡ below self.now.used (goes self.now.search.now label.now) }
+    {
+        for i in 0..self.used {
+            if !alike(self.search[i], label[i]) {
+                return false;
+            }
+        }
+        true
+    }
+
+    // The same with no way out before the end, so that the compiler takes 16 bytes at a time.
+    fn none_missed(&self, label: &[u8; layout::TAG_SIZE]) -> bool
+        ensures { result ≡ below self.now.used (goes self.now.search.now label.now) }
+    {
+        let mut missed: u8 = 0;
+        for i in 0..self.used {
+            if self.search[i] != label[i] {
+                missed += self.care[i];
+            }
+        }
+        missed == 0
+    }
+
+    // The template agrees with a label.
+    fn agrees(&self, label: &[u8; layout::TAG_SIZE]) -> bool
+        ensures { result ≡ agrees_from self.now.search.now label.now template_size 0 }
+    {
+        if self.used < AT_ONCE {
+            return self.all_alike(label);
+        }
+        self.none_missed(label)
+    }
+
+    fn label_matches(&self, label: &[u8; layout::TAG_SIZE]) -> bool
+        ensures { result ≡ label_matches self.now.search.now label.now }
+    {
+        if self.agrees(label) {
+            return in_range(self.search, label);
+        }
+        false
+    }
+
+    // A volume's label matches: "only full elements match".
+    fn volume_fits(&self, tags: &[u8], volume: u16) -> bool
+        requires { tag_size * volume ≤ length tags.now }
+        ensures { result ≡ volume_fits tags.now self.now.search.now volume }
+    {
+        if volume == 0 {
+            return false;
+        }
+        let from = layout::TAG_SIZE * ((volume - 1) as usize);
+        let to = from + layout::TAG_SIZE;
+        self.label_matches(wire::whole::<36>(&tags[from..to]))
+    }
 }
 
 // ---- which elements are found
 
 // There is a search, for elements of this type: "0 all types".
-fn looks_for(search: &[u8], kind: u8) -> bool
-    requires { length search.now ≡ search_size }
+fn looks_for(search: &[u8; layout::SEARCH_SIZE], kind: u8) -> bool
     ensures { (address place : ℕ) → result ≡ looks_for search.now (slot kind address place) }
 {
     if search[layout::ACTION] == 0 {
@@ -169,100 +174,75 @@ fn looks_for(search: &[u8], kind: u8) -> bool
 // Marks the places from `first` to before `end` whose volumes match.
 fn mark_places(
     marks: &mut [u8],
+    template: &Template<'_>,
     elements: &[u8],
     tags: &[u8],
-    search: &[u8],
-    care: &[u8],
-    k: usize,
     first: usize,
     end: usize,
 )
     requires first_le_end { (first ≤ end) × ((element_at end ≤ length elements.now) × (end ≤ length marks.old)) }
-    requires search_len { (length search.now ≡ search_size) × AllLabelled elements.now tags.now }
-    requires cared { Cared search.now care.now k }
-    ensures { marks.new ≡ each (marked_at elements.now tags.now search.now) (end - first) first marks.old }
+    requires labels { AllLabelled elements.now tags.now }
+    ensures { marks.new ≡ each (marked_at elements.now tags.now template.now.search.now) (end - first) first marks.old }
 {
-    let mut p = first;
-    while p < end {
-        if volume_fits(tags, search, care, k, tables::element::volume(elements, p)) {
+    for p in first..end {
+        if template.volume_fits(tags, tables::element::volume(elements, p)) {
             marks[p] = 1;
         }
-        p += 1;
     }
 }
 
 // Marks what is found of a run, whose elements lie from a place on: none of another type, and none that the search has come past.
 fn mark_run(
     marks: &mut [u8],
+    template: &Template<'_>,
     r: Range,
     place: usize,
     elements: &[u8],
     tags: &[u8],
-    search: &[u8],
-    care: &[u8],
-    k: usize,
 )
-    requires run_searchable { RunSearchable (meaning r) place elements.now tags.now search.now marks.old }
-    requires cared { Cared search.now care.now k }
-    ensures { RunMarked (meaning r) place elements.now tags.now search.now marks.old marks.new }
+    requires { RunSearchable (meaning r) place elements.now tags.now marks.old }
+    ensures { RunMarked (meaning r) place elements.now tags.now template.now.search.now marks.old marks.new }
 {
+    let search = template.search;
     if !looks_for(search, r.kind) {
         return;
     }
     let count = r.count as usize;
     let next = wire::triple_at(search, layout::NEXT) as usize;
-    let passed = wire::least(count, wire::less(next, r.first as usize));
+    let passed = count.min(next.saturating_sub(r.first as usize));
     mark_places(
         marks,
+        template,
         elements,
         tags,
-        search,
-        care,
-        k,
         place + passed,
         place + count,
     );
 }
 
-// Marks what is found of each run, with the template made ready.
-fn mark_runs(
+// Marks the place of each element that the search finds, on marks of which none is made.
+pub fn mark_found(
     marks: &mut [u8],
     runs: [Range; 4],
     elements: &[u8],
     tags: &[u8],
-    search: &[u8],
-    care: &[u8],
-    k: usize,
+    search: &[u8; layout::SEARCH_SIZE],
 )
-    requires searchable { Searchable (meant runs) elements.now tags.now search.now marks.old }
-    requires cared { Cared search.now care.now k }
+    requires { Searchable (meant runs) elements.now tags.now marks.old }
     ensures { (t : Tables) → Sought t elements.now tags.now search.now → Marked t marks.new (spread 0 (meant runs)) }
 {
+    let template = Template::of(search);
     let mut place: usize = 0;
-    let mut run: usize = 0;
-    while run < 4 {
-        let r = runs[run];
-        mark_run(marks, r, place, elements, tags, search, care, k);
+    for r in runs {
+        mark_run(marks, &template, r, place, elements, tags);
         place += r.count as usize;
-        run += 1;
     }
-}
-
-// Marks the place of each element that the search finds, on marks of which none is made.
-pub fn mark_found(marks: &mut [u8], runs: [Range; 4], elements: &[u8], tags: &[u8], search: &[u8])
-    requires { Searchable (meant runs) elements.now tags.now search.now marks.old }
-    ensures { (t : Tables) → Sought t elements.now tags.now search.now → Marked t marks.new (spread 0 (meant runs)) }
-{
-    let mut care = [0u8; layout::TEMPLATE_SIZE];
-    let k = cares(search, &mut care);
-    mark_runs(marks, runs, elements, tags, search, &care, k);
 }
 
 // ---- the bytes of the search
 
 // "reset clears it": "All zeros means no search"
-pub fn forget(search: &mut [u8])
-    requires { length search.old ≡ search_size }
+pub fn forget(search: &mut [u8; layout::SEARCH_SIZE])
     ensures { search.new ≡ put search.old 0 no_search }
 {
     let none = [0u8; layout::SEARCH_SIZE];
@@ -270,8 +250,8 @@ pub fn forget(search: &mut [u8])
 }
 
 // The lowest address that may still be told.
-pub fn put_next(search: &mut [u8], next: usize)
-    requires { (length search.old ≡ search_size) × (next ≤ behind_last) }
+pub fn put_next(search: &mut [u8; layout::SEARCH_SIZE], next: usize)
+    requires { next ≤ behind_last }
     ensures { search.new ≡ put search.old next_at (three next) }
 {
     wire::put_triple(search, layout::NEXT, next as u32);
@@ -280,8 +260,7 @@ pub fn put_next(search: &mut [u8], next: usize)
 // ---- SEND VOLUME TAG
 
 // A reserved byte of its list is not 0.
-fn reserved(list: &[u8]) -> bool
-    requires { length list.now ≡ 40 }
+fn reserved(list: &[u8; layout::TAG_LIST_SIZE]) -> bool
     ensures { result ≡ reserved_tags list.now }
 {
     if list[32] != 0 {
@@ -297,23 +276,24 @@ fn reserved(list: &[u8]) -> bool
 }
 
 // "A new search replaces it": template, type, action, range, and the block's start as the next address.
-fn begin(search: &mut [u8], block: &[u8], list: &[u8])
-    requires { (length search.old ≡ search_size) × ((length block.now ≡ 12) × (length list.now ≡ 40)) }
+fn begin(
+    search: &mut [u8; layout::SEARCH_SIZE],
+    block: &[u8; 12],
+    list: &[u8; layout::TAG_LIST_SIZE],
+)
     ensures { search.new ≡ put search.old 0 (search_for block.now list.now) }
 {
     wire::copy(search, &list[0..layout::TEMPLATE_SIZE]);
-    wire::put_two(search, layout::SEARCH_TYPE, block[1] % 16, block[5] % 32);
-    wire::put_two(
+    wire::put(search, layout::SEARCH_TYPE, [block[1] % 16, block[5] % 32]);
+    wire::put(
         search,
         layout::LEAST,
-        list[LIST_LEAST],
-        list[LIST_LEAST + 1],
+        [list[LIST_LEAST], list[LIST_LEAST + 1]],
     );
-    wire::put_two(
+    wire::put(
         search,
         layout::GREATEST,
-        list[LIST_GREATEST],
-        list[LIST_GREATEST + 1],
+        [list[LIST_GREATEST], list[LIST_GREATEST + 1]],
     );
     let start = wire::word_at(block, 2);
     wire::put_triple(search, layout::NEXT, start as u32);
@@ -321,19 +301,18 @@ fn begin(search: &mut [u8], block: &[u8], list: &[u8])
 
 // From step 5 on: "other than 40 is 5/1A/00"
 pub fn send_volume_tag(
-    head: &mut [u8],
-    search: &mut [u8],
-    host: u8,
-    block: &[u8],
+    head: &mut [u8; layout::HEAD_SIZE],
+    search: &mut [u8; layout::SEARCH_SIZE],
+    host: Host,
+    block: &[u8; 12],
     list: &[u8],
 ) -> Reply
-    requires head_size_in_bounds { (head_size ≤ length head.old) × (host ≤ hosts) }
-    requires search_len { (length search.old ≡ search_size) × (length block.now ≡ 12) }
-    ensures { (elements : List ℕ) (rest : Rest) (buffer : List ℕ) → ended result (lent head.new elements (searching rest search.new)) buffer ≡ outcome (lent head.old elements (searching rest search.old)) buffer (send_tag (lent head.old elements (searching rest search.old)) host block.now list.now) }
+    ensures { (elements : List ℕ) (rest : Rest) (buffer : List ℕ) → ended result (lent head.new elements (searching rest search.new)) buffer ≡ outcome (lent head.old elements (searching rest search.old)) buffer (send_tag (lent head.old elements (searching rest search.old)) host.number block.now list.now) }
 {
     if list.len() != layout::TAG_LIST_SIZE {
         return order::refuse(head, host, Cause::ListLength);
     }
+    let list = wire::whole::<40>(list);
     if reserved(list) {
         return order::refuse(head, host, Cause::ListField);
     }

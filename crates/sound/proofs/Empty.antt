@@ -1,10 +1,8 @@
 -- The empty places of a run, the empty shelves run after run, and what a pass tells. Assumes nothing.
-use Rattle.std.proofs.Common.{◌≡◌, ℕ, zero, suc, ◌+◌, ◌-◌, ◌<◌, ◌≤◌, Bool, true, false, eqb, List, [], ◌∷◌, ◌++◌, sym, refl, ◌∙◌, zero-add, add-one, arith, eq-eqb, ne_eqb}
+use Rattle.std.proofs.Common.{◌≡◌, ℕ, zero, suc, ◌+◌, ◌-◌, ◌<◌, ◌≤◌, Bool, true, false, eqb, List, [], ◌∷◌, ◌++◌, sym, refl, ◌∙◌, zero-add, add-one, arith, eq-eqb, ne_eqb, Option, Some, None}
 use Rattle.rules.specs.Choice.{when, all_of}
 use Rattle.rules.specs.Tables.{volume, vacant, empty_shelves}
 use Rattle.rules.specs.Roster.{Slot, slots, storage}
-use Rattle.sound.specs.declared.element.Pass.{Pass}
-use Rattle.sound.specs.declared.element.Pass.TheVariants.{Sound, Broken}
 use Rattle.sound.specs.Checks.{empty_from}
 
 pub counts-most : (b : Bool) (n : ℕ) → when b n 0 ≤ n
@@ -55,19 +53,19 @@ add-other k a n m d is = rw (ne_eqb k storage d) (omega arith)
 
 -- ---- what a pass over a run tells: b, that its places are sound, and their empty ones n
 
-module _ (r : Pass) (b : Bool) (n : ℕ) (is : r ≡ when b (Sound n) Broken) where
-  pub tells-broken : r ≡ Broken → b ≡ false
+module _ (b : Bool) (n : ℕ) where
+  pub none_tells : None ≡ when b (Some n) None → b ≡ false
   unfolding when
-  tells-broken e = go b refl
+  none_tells = go b
     where
-      go : (x : Bool) → b ≡ x → x ≡ false
-      go true t = let z : Broken ≡ Sound n = sym e ∙ is ∙ rw t in let y : ◌≡◌ {A = ℕ} 0 1 = cc in absurd (let w : ⊥ = omega arith in w)
-      go false t = refl
+      go : (x : Bool) → ◌≡◌ {A = Option ℕ} None (when x (Some n) None) → x ≡ false
+      go true e = cc
+      go false e = refl
 
-  pub tells-sound : (m : ℕ) → r ≡ Sound m → (b ≡ true) × (m ≡ n)
+  pub some_tells : (m : ℕ) → Some m ≡ when b (Some n) None → (b ≡ true) × (m ≡ n)
   unfolding when
-  tells-sound m e = go b refl
+  some_tells m = go b
     where
-      go : (x : Bool) → b ≡ x → (x ≡ true) × (m ≡ n)
-      go true t = let z : Sound m ≡ Sound n = sym e ∙ is ∙ rw t in (refl, cc)
-      go false t = let z : Sound m ≡ Broken = sym e ∙ is ∙ rw t in let y : ◌≡◌ {A = ℕ} 0 1 = cc in absurd (let w : ⊥ = omega arith in w)
+      go : (x : Bool) → Some m ≡ when x (Some n) None → (x ≡ true) × (m ≡ n)
+      go true e = (refl, cc)
+      go false e = absurd (let w : ⊥ = cc in w)

@@ -1,20 +1,20 @@
--- A test of one byte after the other, with no way out before the end: whether it held of those before i. Assumes nothing.
-use Rattle.std.proofs.Common.{◌≡◌, ℕ, ◌+◌, ◌≤◌, Bool, true, false, refl, ◌∙◌, arith}
+-- A test of one number after the other, with no way out before the end. Assumes nothing.
+use Rattle.std.proofs.Common.{◌≡◌, ℕ, ◌+◌, Bool, true, false, ◌&&◌, refl, ◌∙◌}
 use Rattle.rules.specs.Choice.{when, below}
 use Rattle.rules.proofs.Ladder.{below_step}
 
-module _ (f : ℕ → Bool) (n : ℕ) where
-  pub record Gathered (fine : Bool) (i : ℕ) : Type 0 where
-    pub far : i ≤ n
-    pub so_far : fine ≡ below i f
+pub below_none : (f : ℕ → Bool) → below 0 f ≡ true
+unfolding below
+below_none f = refl
 
-  pub gather-begins : Gathered true 0
-  unfolding below
-  gather-begins = record { far = omega arith; so_far = refl }
+pub below_more : (f : ℕ → Bool) (i : ℕ) → below (i + 1) f ≡ (below i f && f i)
+unfolding when
+below_more f i = below_step i f ∙ go (f i) (below i f)
+  where
+    go : (b x : Bool) → when b x false ≡ (x && b)
+    go true true = refl
+    go true false = refl
+    go false true = refl
+    go false false = refl
 
-  module _ (fine : Bool) (i : ℕ) (at : Gathered fine i) where
-    pub gather-on : i + 1 ≤ n → (b : Bool) → b ≡ when (f i) fine false → Gathered b (i + 1)
-    gather-on h b w = record { far = h; so_far = w ∙ rw (at.so_far, below_step i f) }
-
-    pub gather-ends : n ≤ i → fine ≡ below n f
-    gather-ends h = let l = at.far in let e : i ≡ n = omega arith in rw (← e) at.so_far
+pub ruleset gathered = (below_none, below_more)

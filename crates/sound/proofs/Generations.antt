@@ -1,33 +1,18 @@
--- The generations: each is 1 to 8, or not. Assumes nothing.
-use Rattle.std.proofs.Common.{◌≡◌, ℕ, ◌+◌, ◌%◌, ◌<◌, ◌≤◌, Bool, true, false, leb, List, length, refl, arith, le-leb, leb-true}
-use Rattle.rules.specs.Choice.{when, all_of, below}
-use Rattle.rules.specs.Bytes.{byte}
+-- "generation 1 to 8", by the number from the first on, where 0 wraps round. Assumes nothing.
+use Rattle.std.proofs.Common.{◌≡◌, ℕ, ◌+◌, ◌%◌, ◌<◌, Bool, true, false, leb, ltb, refl, arith, leb-true, lt-ltb, leb-false, le-ltb}
+use Rattle.rules.specs.Choice.{when, all_of}
 use Rattle.rules.specs.Tables.{most_generations}
-use Rattle.rules.specs.Sound.{within, generations_sound}
-use Rattle.sound_head.proofs.Tests.{all-eq-go, all-last}
+use Rattle.rules.specs.Sound.{within}
 
--- ---- one generation, by the number from the first on, where 0 wraps round
-
-module _ (g r : ℕ) (small : r < 256) (is : (r + 1) % 256 ≡ g) (fine : Bool) where
-  pub out_of : 8 ≤ r → false ≡ when (within 1 most_generations g) fine false
-  unfolding within all_of when
-  out_of h = go (leb 1 g) (leb g 8) refl refl
-    where
-      go : (a b : Bool) → leb 1 g ≡ a → leb g 8 ≡ b → false ≡ when (when a (when b true false) false) fine false
-      go true true e f = absurd (let x : ⊥ = omega (arith, leb-true 1 g e, leb-true g 8 f) in x)
-      go true false e f = refl
-      go false b e f = refl
-
-  pub inside : r < 8 → fine ≡ when (within 1 most_generations g) fine false
-  unfolding within all_of when
-  inside h = rw (le-leb 1 g (omega arith), le-leb g 8 (omega arith))
-
--- ---- as many as there are volumes
-
-pub generations-by : (top : ℕ) (gs : List ℕ) → length gs ≡ top → (b : Bool) → b ≡ below (length gs) (λ i. within 1 most_generations (byte gs i)) → b ≡ generations_sound top gs
-unfolding generations_sound
-generations-by top gs e b w = all-eq-go _ _ _ _ e (all-last _ _ (rw e at w))
-
--- by the number that the code counted
-pub top-by : (top n : ℕ) (gs : List ℕ) → n ≡ top → (b : Bool) → b ≡ generations_sound n gs → b ≡ generations_sound top gs
-top-by top n gs e b w = rw e at w
+pub one_test : (g : ℕ) → g < 256 → ltb ((g + 255) % 256) 8 ≡ within 1 most_generations g
+unfolding within all_of when
+one_test g small = go (leb 1 g) (leb g 8) refl refl
+  where
+    go : (a b : Bool) → leb 1 g ≡ a → leb g 8 ≡ b → ltb ((g + 255) % 256) 8 ≡ when a (when b true false) false
+    go true true e f =
+        let l = leb-true 1 g e in let m = leb-true g 8 f in
+        lt-ltb _ 8 (omega arith)
+    go true false e f =
+        let l = leb-true 1 g e in let m = leb-false g 8 f in
+        le-ltb _ 8 (omega arith)
+    go false b e f = let l = leb-false 1 g e in le-ltb _ 8 (omega arith)

@@ -2,10 +2,10 @@ pub mod Empty
 pub mod Pass
 pub mod Bits
 pub mod Once
-pub mod Holding
-pub mod Shelved
+pub mod Fields
 pub mod Gathered
 pub mod Generations
 pub mod Searching
+pub mod Shelved
 pub mod Suited
 pub mod Whole

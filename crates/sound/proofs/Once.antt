@@ -27,13 +27,13 @@ module _ (es seen : List ℕ) (p v : ℕ) (marks : Marks es p seen) (is : v ≡ 
     unfolding once absent when
     once_is = rw (← is, ne_eqb v 0 some)
 
-    -- the code's test b of its mark
-    module _ (b : Bool) (test : b ≡ marked seen v) where
-      pub stands-twice : b ≡ true → once es p ≡ false
-      stands-twice t = once_is ∙ not-true (absent es p v) (sym told ∙ sym test ∙ t)
+    -- the code's test, whether it had no mark
+    module _ (fresh : Bool) (test : fresh ≡ not (marked seen v)) where
+      pub stands-twice : fresh ≡ false → once es p ≡ false
+      stands-twice t = once_is ∙ not-true (absent es p v) (sym told ∙ not-false (marked seen v) (sym test ∙ t))
 
-      pub stands-once : b ≡ false → once es p ≡ true
-      stands-once t = once_is ∙ not-false (absent es p v) (sym told ∙ sym test ∙ t)
+      pub stands-once : fresh ≡ true → once es p ≡ true
+      stands-once t = once_is ∙ not-false (absent es p v) (sym told ∙ not-true (marked seen v) (sym test ∙ t))
 
     now-marked : (y : ℕ) → 0 < y → y < 64 * length seen → (t : Bool) → eqb v y ≡ t → marked (marking seen v) y ≡ not (absent es (p + 1) y)
     unfolding when

@@ -1,24 +1,19 @@
 -- The one pass over the elements: the places of a run, and one run after the other. Assumes nothing.
-use Rattle.std.proofs.Common.{◌≡◌, ℕ, zero, suc, ◌+◌, ◌-◌, ◌*◌, ◌<◌, ◌≤◌, Bool, true, false, not, eqb, ltb, leb, ◌≢◌, List, [], ◌∷◌, map, length, get_or, drop, sym, refl, ap, ◌∙◌, add_assoc, zero-add, add-one, arith, ltb-false, ltb-true, le-ltb, lt-ltb, eq-eqb, ne_eqb, eqb-true, le-leb, leb-false, leb-true}
-use borrow.Author.Tests.{not-true, not-false, lt-leb, eqb-false}
+use Rattle.std.proofs.Common.{◌≡◌, ℕ, zero, suc, ◌+◌, ◌-◌, ◌*◌, ◌<◌, ◌≤◌, Bool, true, false, not, eqb, ltb, leb, ◌≢◌, List, [], ◌∷◌, map, length, get_or, drop, sym, refl, ap, ◌∙◌, add_assoc, zero-add, add-one, arith, ltb-false, ltb-true, le-ltb, lt-ltb, eq-eqb, ne_eqb, eqb-true, le-leb, leb-false, leb-true, Option, Some, None}
+use Rattle.std.specs.Option.{option_eq}
+use borrow.Author.Tests.{lt-leb, eqb-false}
 use Rattle.rules.specs.Ranges.{total}
 use Rattle.rules.specs.Choice.{when, all_of, below}
-use Rattle.rules.specs.Bytes.{byte, word}
-use Rattle.rules.specs.Tables.{element_size, element_at, volume, source, mark, holder, id, zero_byte, empty_shelves}
+use Rattle.rules.specs.Tables.{most_volumes, element_size, volume, source, mark, holder, id, zero_byte, empty_shelves}
 use Rattle.rules.specs.Roster.{Range, Slot, spread, kind_at, transport, storage}
 use Rattle.rules.specs.Sound.{transport_empty, source_sound, mark_sound, stock_sound, hold_sound, once, elements_sound}
 use Rattle.rules.proofs.Ladder.{on, below_step, below_at, below_of, below_fails, all_first}
-use Rattle.sound_head.proofs.Tests.{all-stop, all_go, all-last}
 use Rattle.tables.specs.declared.Range.{Range as Code}
 use Rattle.tables.specs.Ranges.{meaning, meant, laid}
 use Rattle.tables.proofs.Sort.{none, meant-from, meant-end}
 use Rattle.tables.proofs.Roster.{walk, laid-at, laid-length}
-use Rattle.sound.specs.declared.element.Pass.{Pass}
-use Rattle.sound.specs.declared.element.Pass.TheVariants.{Sound, Broken}
-use Rattle.sound.specs.Checks.{last_of, ending_sound, Shelved, source_in, fit_by, passes_at, passes_from, sound_at, sound_to, empty_from, pass_sound, marked, marking, Marks, Run}
-use Rattle.sound.proofs.Empty.{counts-most, empty-most, empty-next, shelves-of, tells-broken, tells-sound}
-use Rattle.sound.proofs.Holding.{hold-none}
-use Rattle.sound.proofs.Bits.{marking-length}
+use Rattle.sound.specs.Checks.{last_of, ending_sound, Shelved, source_in, fit_by, passes_at, passes_from, sound_at, sound_to, empty_from, marked, marking, Marks, Run}
+use Rattle.sound.proofs.Empty.{counts-most, empty-most, empty-next, shelves-of, none_tells, some_tells}
 use Rattle.sound.proofs.Once.{stands-twice, stands-once, stands-none, mark-new, mark-none}
 
 -- ---- several tests at each number below n are each test at all of them
@@ -46,25 +41,38 @@ unfolding when
 same true = refl
 same false = refl
 
--- the lengths, then what the pass tells, are the elements with the panel's number
-pub elements-by : (u top panel : ℕ) (ss : List Slot) (es : List ℕ) (n : ℕ) → n ≡ length ss → (z : Bool)
-    → z ≡ all_of (eqb (length es) (element_size * n) ∷ pass_sound u top panel ss es ∷ [])
-    → z ≡ all_of (elements_sound ss u top es ∷ eqb panel (empty_shelves ss es) ∷ [])
-unfolding elements_sound pass_sound sound_to sound_at all_of when
-elements-by u top panel ss es n is z e =
+eqb_back : (x y : ℕ) → eqb x y ≡ eqb y x
+eqb_back x y = go (eqb x y) refl
+  where
+    go : (b : Bool) → eqb x y ≡ b → eqb x y ≡ eqb y x
+    go true t = t ∙ sym (eq-eqb y x (sym (eqb-true x y t)))
+    go false t = t ∙ sym (ne_eqb y x (λ q. eqb-false x y t (sym q)))
+
+-- of elements of another number nothing is sound
+pub elements_wrong : (u top : ℕ) (ss : List Slot) (es : List ℕ) (b : Bool) → (length es ≡ element_size * length ss → ⊥)
+    → all_of (elements_sound ss u top es ∷ b ∷ []) ≡ false
+unfolding elements_sound all_of when
+elements_wrong u top ss es b d = rw (ne_eqb _ _ d)
+
+-- else what the pass tells, beside the panel's number
+pub elements_told : (u top panel : ℕ) (ss : List Slot) (es : List ℕ) → length es ≡ element_size * length ss
+    → all_of (elements_sound ss u top es ∷ eqb panel (empty_shelves ss es) ∷ [])
+    ≡ option_eq eqb (when (sound_to u top ss es (length ss)) (Some (empty_shelves ss es)) None) (Some panel)
+unfolding elements_sound sound_to sound_at all_of when
+elements_told u top panel ss es long =
     let all = below_all (length ss)
     ((λ p. stock_sound top ss (kind_at ss p) (volume es p) (source es p) (mark es p))
     ∷ (λ p. hold_sound u (holder es p) (id es p))
     ∷ (λ p. eqb (zero_byte es p) 0)
     ∷ once es
     ∷ []) in
-    e ∙ rw (is, ← all) (go (eqb (length es) (element_size * length ss)) (sound_to u top ss es (length ss)) (eqb panel (empty_shelves ss es)))
+    rw (eq-eqb _ _ long, ← all) (sym (go (sound_to u top ss es (length ss)) (empty_shelves ss es)))
   where
-    go : (a b c : Bool) → when a (when (when b (when c true false) false) true false) false ≡ when (when a b false) (when c true false) false
-    go true true true = refl
-    go true true false = refl
-    go true false c = refl
-    go false b c = refl
+    go : (b : Bool) (m : ℕ) → option_eq eqb (when b (Some m) None) (Some panel) ≡ when b (when (eqb panel m) true false) false
+    go true m = eqb_back m panel ∙ sym (same (eqb panel m))
+    go false m = refl
+
+pub ruleset told_by = (elements_wrong, elements_told)
 
 -- ---- an element by itself
 
@@ -87,161 +95,119 @@ last-most : (top kind : ℕ) → last_of top kind ≤ top
 unfolding last_of
 last-most top kind = on (λ (n : ℕ). n ≤ top) (eqb kind transport) (λ e. omega arith) (λ e. omega arith)
 
--- two bytes that are 0 as one number
-pub word_none : (es : List ℕ) (i : ℕ) → word es i ≡ 0 → (byte es i ≡ 0) × (byte es (i + 1) ≡ 0)
-unfolding word
-word_none es i e = (omega arith, omega arith)
-
-module _ (es : List ℕ) (p : ℕ) where
-  pub ending-none : (kind v : ℕ) → word es (element_at p + 6) ≡ 0 → true ≡ ending_sound kind v es p
-  unfolding ending_sound mark_sound mark zero_byte all_of when
-  ending-none kind v e =
-      let both = word_none es (element_at p + 6) e in
-      let i : element_at p + 6 + 1 ≡ element_at p + 7 = omega arith in
-      let z : byte es (element_at p + 7) ≡ 0 = ap (byte es) (sym i) ∙ both.1 in
-      rw (both.0, z)
-
-  -- the code's test b, of what it read there
-  module _ (b : Bool) where
-    pub source-by : (shelves : Range) (v s : ℕ) → v ≡ volume es p → s ≡ source es p → b ≡ source_in shelves v s → b ≡ source_in shelves (volume es p) (source es p)
-    source-by shelves v s e f w = w ∙ rw (e, f)
-
-    pub mark-by : (kind v m : ℕ) → m ≡ mark es p → b ≡ mark_sound kind v m → b ≡ mark_sound kind v (mark es p)
-    mark-by kind v m e w = w ∙ rw e
-
-    pub ending-by : (kind v : ℕ) → v ≡ volume es p → b ≡ ending_sound kind v es p → b ≡ ending_sound kind (volume es p) es p
-    ending-by kind v e w = w ∙ rw e
-
-    pub hold-by : (u h i : ℕ) → h ≡ holder es p → i ≡ id es p → b ≡ hold_sound u h i → b ≡ hold_sound u (holder es p) (id es p)
-    hold-by u h i e f w = w ∙ rw (e, f)
-
-  pub held_none : (u : ℕ) → word es (element_at p + 4) ≡ 0 → true ≡ hold_sound u (holder es p) (id es p)
-  unfolding holder id
-  held_none u e =
-      let both = word_none es (element_at p + 4) e in
-      let i : element_at p + 4 + 1 ≡ element_at p + 5 = omega arith in
-      let z : byte es (element_at p + 5) ≡ 0 = ap (byte es) (sym i) ∙ both.1 in
-      rw z (hold-none u (byte es (element_at p + 4)) 0 both.0)
-
 -- ---- the places of a run: those before p are passed
-
--- what was not sound tells nothing of the marks
-pub never : {P : Type 0} → false ≡ true → P
-never e = absurd (let y : ◌≡◌ {A = ℕ} 0 1 = cc in let w : ⊥ = omega arith in w)
 
 module _ (u top : ℕ) (shelves : Range) (es : List ℕ) (kind first end : ℕ) where
   -- the place that lies i behind the first
   abbrev passes : ℕ → Bool
   passes i = passes_at u (last_of top kind) shelves es kind (first + i)
 
-  pub record Passing (seen₀ seen : List ℕ) (empty p : ℕ) : Type 0 where
+  pub record Passing (seen : List ℕ) (empty p : ℕ) : Type 0 where
     pub begun : first ≤ p
     pub far : p ≤ end
     pub few : empty ≤ p
     pub counted : empty + empty_from es p (end - p) ≡ empty_from es first (end - first)
     pub so_far : below (p - first) passes ≡ true
-    pub as_long : length seen ≡ length seen₀
     pub marks : Marks es p seen
 
-  -- what the code tells where it stops, with the marks that it leaves
-  abbrev Tells : List ℕ → Pass → Type 0
-  Tells seen r =
-      (r ≡ when (passes_from u (last_of top kind) shelves es kind first (end - first)) (Sound (empty_from es first (end - first))) Broken)
-      × (passes_from u (last_of top kind) shelves es kind first (end - first) ≡ true → Marks es end seen)
+  -- what the code tells of the run
+  abbrev told : Option ℕ
+  told = when (passes_from u (last_of top kind) shelves es kind first (end - first)) (Some (empty_from es first (end - first))) None
 
-  module _ (seen₀ : List ℕ) (run : Run top es first end seen₀) where
-    pub pass-begins : Passing seen₀ seen₀ 0 first
-    unfolding below
-    pass-begins =
-        let z : first - first ≡ 0 = omega arith in
-        record {
-          begun = omega arith;
-          far = run.in_order;
-          few = omega arith;
-          counted = zero-add (empty_from es first (end - first));
-          so_far = rw z;
-          as_long = refl;
-          marks = run.before;
-        }
+  pub pass_begins : (seen : List ℕ) → Run es first end seen → Passing seen 0 first
+  unfolding below
+  pass_begins seen run =
+      let z : first - first ≡ 0 = omega arith in
+      record {
+        begun = omega arith;
+        far = run.in_order;
+        few = omega arith;
+        counted = zero-add (empty_from es first (end - first));
+        so_far = rw z;
+        marks = run.before;
+      }
 
-    module _ (seen : List ℕ) (empty p : ℕ) (at : Passing seen₀ seen empty p) where
-      -- the code's test b of the element by itself
-      module _ (h : p < end) (last : ℕ) (limit : last ≡ last_of top kind) (b : Bool) (is : b ≡ fit_by u last shelves es kind p) where
-        here : passes (p - first) ≡ all_of (b ∷ once es p ∷ [])
-        unfolding passes_at
-        here =
-            let e : first + (p - first) ≡ p = omega (arith, at.begun) in
-            rw (e, is, limit)
+  module _ (seen : List ℕ) (empty p : ℕ) (at : Passing seen empty p) where
+    -- the code's test b of the element by itself
+    module _ (h : p < end) (last : ℕ) (limit : last ≡ last_of top kind) (b : Bool) (is : b ≡ fit_by u last shelves es kind p) where
+      here : passes (p - first) ≡ all_of (b ∷ once es p ∷ [])
+      unfolding passes_at
+      here =
+          let e : first + (p - first) ≡ p = omega (arith, at.begun) in
+          rw (e, is, limit)
 
-        stops : passes (p - first) ≡ false → Tells seen Broken
-        unfolding passes_from when
-        stops e =
-            let f : passes_from u (last_of top kind) shelves es kind first (end - first) ≡ false = below_fails (end - first) passes (p - first) (omega (arith, at.begun)) e in
-            (rw f, λ t. never (sym f ∙ t))
+      stops : passes (p - first) ≡ false → None ≡ told
+      unfolding passes_from when
+      stops e =
+          let f : passes_from u (last_of top kind) shelves es kind first (end - first) ≡ false = below_fails (end - first) passes (p - first) (omega (arith, at.begun)) e in
+          rw f
 
-        goes : (s : List ℕ) (n : ℕ) → passes (p - first) ≡ true → length s ≡ length seen → Marks es (p + 1) s
-            → n ≡ empty + when (eqb (volume es p) 0) 1 0 → Passing seen₀ s n (p + 1)
-        unfolding when
-        goes s n e l m c =
-            let i : p + 1 - first ≡ p - first + 1 = omega (arith, at.begun) in
-            record {
-              begun = omega (arith, at.begun);
-              far = omega arith;
-              few = omega (arith, at.few, counts-most (eqb (volume es p) 0) 1);
-              counted = omega (arith, at.counted, empty-next es p end h);
-              so_far = rw i (below_step (p - first) passes ∙ rw (e, at.so_far));
-              as_long = l ∙ at.as_long;
-              marks = m;
-            }
+      goes : (s : List ℕ) (n : ℕ) → passes (p - first) ≡ true → Marks es (p + 1) s
+          → n ≡ empty + when (eqb (volume es p) 0) 1 0 → Passing s n (p + 1)
+      unfolding when
+      goes s n e m c =
+          let i : p + 1 - first ≡ p - first + 1 = omega (arith, at.begun) in
+          record {
+            begun = omega (arith, at.begun);
+            far = omega arith;
+            few = omega (arith, at.few, counts-most (eqb (volume es p) 0) 1);
+            counted = omega (arith, at.counted, empty-next es p end h);
+            so_far = rw i (below_step (p - first) passes ∙ rw (e, at.so_far));
+            marks = m;
+          }
 
-        pub pass-unfit : not b ≡ true → Tells seen Broken
+      pub pass_unfit : b ≡ false → None ≡ told
+      unfolding all_of when
+      pass_unfit t = stops (here ∙ rw t)
+
+      -- it fits, and its volume is v
+      module _ (t : b ≡ true) (v : ℕ) (reads : v ≡ volume es p) (small : top ≤ most_volumes) where
+        left : passes (p - first) ≡ once es p
         unfolding all_of when
-        pass-unfit t = stops (here ∙ rw (not-true b t))
+        left = here ∙ rw t (same (once es p))
 
-        -- it fits, and its volume is v
-        module _ (t : not b ≡ false) (v : ℕ) (reads : v ≡ volume es p) where
-          left : passes (p - first) ≡ once es p
-          unfolding all_of when
-          left = here ∙ rw (not-false b t) (same (once es p))
+        pub volume_most : v ≤ most_volumes
+        unfolding fit_by
+        volume_most =
+            let l : volume es p ≤ last = leb-true (volume es p) last (all_first _ _ (sym is ∙ t)) in
+            omega (arith, last-most top kind)
 
-          pub volume-small : v < 64 * length seen
-          unfolding fit_by
-          volume-small =
-              let l : volume es p ≤ last = leb-true (volume es p) last (all_first _ _ (sym is ∙ not-false b t)) in
-              omega (arith, run.numbers, at.as_long, last-most top kind)
+        -- the code's test, whether it had no mark
+        module _ (some : v ≢ 0) (room : most_volumes < 64 * length seen) (fresh : Bool) (test : fresh ≡ not (marked seen v)) where
+          there : v < 64 * length seen
+          there = omega (arith, volume_most)
 
-          -- the code's test m of its mark
-          module _ (some : v ≢ 0) (m : Bool) (test : m ≡ marked seen v) where
-            pub pass-twice : m ≡ true → Tells seen Broken
-            pass-twice d = stops (left ∙ stands-twice es seen p v at.marks reads some volume-small m test d)
+          pub pass_twice : fresh ≡ false → None ≡ told
+          pass_twice d = stops (left ∙ stands-twice es seen p v at.marks reads some there fresh test d)
 
-            pub pass-new : m ≡ false → Passing seen₀ (marking seen v) empty (p + 1)
-            unfolding when
-            pass-new d =
-                goes (marking seen v) empty
-                (left ∙ stands-once es seen p v at.marks reads some volume-small m test d)
-                (marking-length seen v)
-                (mark-new es seen p v at.marks reads some volume-small)
-                (rw (← reads, ne_eqb v 0 some) (omega arith))
-
-          pub pass-empty : v ≡ 0 → Passing seen₀ seen (empty + 1) (p + 1)
+          pub pass_new : fresh ≡ true → Passing (marking seen v) empty (p + 1)
           unfolding when
-          pass-empty e =
-              goes seen (empty + 1)
-              (left ∙ stands-none es seen p v at.marks reads e)
-              refl
-              (mark-none es seen p v at.marks reads e)
-              (rw (← reads, eq-eqb v 0 e))
+          pass_new d =
+              goes (marking seen v) empty
+              (left ∙ stands-once es seen p v at.marks reads some there fresh test d)
+              (mark-new es seen p v at.marks reads some there)
+              (rw (← reads, ne_eqb v 0 some) (omega arith))
 
-      pub pass_all : end ≤ p → Tells seen (Sound empty)
-      unfolding when empty_from passes_from
-      pass_all h =
-          let e : p ≡ end = omega (arith, at.far) in
-          let f : passes_from u (last_of top kind) shelves es kind first (end - first) ≡ true = rw (← e) at.so_far in
-          let z : end - p ≡ 0 = omega arith in
-          let c = rw z at at.counted in
-          let n : empty ≡ empty_from es first (end - first) = omega arith in
-          (rw (f, n), λ t. rw (← e) at.marks)
+        pub pass_empty : v ≡ 0 → Passing seen (empty + 1) (p + 1)
+        unfolding when
+        pass_empty e =
+            goes seen (empty + 1)
+            (left ∙ stands-none es seen p v at.marks reads e)
+            (mark-none es seen p v at.marks reads e)
+            (rw (← reads, eq-eqb v 0 e))
+
+    pub pass_all : end ≤ p → Some empty ≡ told
+    unfolding when empty_from passes_from
+    pass_all h =
+        let e : p ≡ end = omega (arith, at.far) in
+        let f : passes_from u (last_of top kind) shelves es kind first (end - first) ≡ true = rw (← e) at.so_far in
+        let z : end - p ≡ 0 = omega arith in
+        let c = rw z at at.counted in
+        let n : empty ≡ empty_from es first (end - first) = omega arith in
+        rw (f, n)
+
+    pub all_marked : end ≤ p → Marks es end seen
+    all_marked h = let e : p ≡ end = omega (arith, at.far) in rw (← e) at.marks
 
 -- ---- a run of one type: its places pass where they are sound
 
@@ -304,18 +270,21 @@ walk-later r rs i =
     let e : r.count + i - r.count ≡ i = omega arith in
     rw (le-ltb (r.count + i) r.count (omega arith), e)
 
-module _ (u top panel : ℕ) (shelves : Range) (runs : List Code) (es : List ℕ) where
-  pub record Filing (seen₀ seen : List ℕ) (empty first k : ℕ) : Type 0 where
+module _ (u top : ℕ) (shelves : Range) (runs : List Code) (es : List ℕ) where
+  pub record Filing (seen : List ℕ) (empty first k : ℕ) : Type 0 where
     pub far : k ≤ 4
     pub few : empty ≤ first
     pub counted : empty + empty_shelves (spread first (drop k (meant runs))) es ≡ empty_shelves (laid runs) es
     pub long : first + total (drop k (meant runs)) ≡ length (laid runs)
     pub rest : (i : ℕ) → kind_at (laid runs) (first + i) ≡ walk (drop k (meant runs)) i
     pub so_far : sound_to u top (laid runs) es first ≡ true
-    pub as_long : length seen ≡ length seen₀
     pub marks : Marks es first seen
 
-  pub file-begins : (seen : List ℕ) → Marks es 0 seen → Filing seen seen 0 0 0
+  -- what the code tells of all
+  abbrev filed : Option ℕ
+  filed = when (sound_to u top (laid runs) es (length (laid runs))) (Some (empty_shelves (laid runs) es)) None
+
+  pub file-begins : (seen : List ℕ) → Marks es 0 seen → Filing seen 0 0 0
   unfolding sound_to below laid
   file-begins seen m =
       record {
@@ -325,11 +294,10 @@ module _ (u top panel : ℕ) (shelves : Range) (runs : List Code) (es : List ℕ
         long = rw zero-add (sym (laid-length runs));
         rest = λ i. rw zero-add (laid-at runs i);
         so_far = refl;
-        as_long = refl;
         marks = m;
       }
 
-  module _ (four : length runs ≡ 4) (seen₀ seen : List ℕ) (empty first k : ℕ) (at : Filing seen₀ seen empty first k) where
+  module _ (four : length runs ≡ 4) (seen : List ℕ) (empty first k : ℕ) (at : Filing seen empty first k) where
     module _ (h : k < 4) where
       fits : first + (get_or runs k none).count + total (drop (suc k) (meant runs)) ≡ length (laid runs)
       unfolding total
@@ -345,10 +313,9 @@ module _ (u top panel : ℕ) (shelves : Range) (runs : List Code) (es : List ℕ
           rw (← e)
           (at.rest i ∙ rw (meant-from runs k four h) (walk_first (meaning (get_or runs k none)) (drop (suc k) (meant runs)) i (omega arith)))
 
-      pub file-run : top < 64 * length seen₀ → length es ≡ element_size * length (laid runs) → Run top es first (first + (get_or runs k none).count) seen
-      file-run m e =
+      pub file-run : length es ≡ element_size * length (laid runs) → Run es first (first + (get_or runs k none).count) seen
+      file-run e =
           record {
-            numbers = rw at.as_long m;
             in_order = omega arith;
             there = let w = file-most in omega arith;
             before = at.marks;
@@ -358,58 +325,59 @@ module _ (u top panel : ℕ) (shelves : Range) (runs : List Code) (es : List ℕ
       abbrev passed : Bool
       passed = passes_from u (last_of top (get_or runs k none).kind) shelves es (get_or runs k none).kind first (first + (get_or runs k none).count - first)
 
-      module _ (has : Shelved (laid runs) shelves) (r : Pass) (is : r ≡ when passed (Sound (empty_from es first (first + (get_or runs k none).count - first))) Broken) where
-        module _ (n : ℕ) (e : r ≡ Sound n) where
-          told : (passed ≡ true) × (n ≡ empty_from es first (get_or runs k none).count)
-          told =
+      module _ (has : Shelved (laid runs) shelves) where
+        module _ (n : ℕ) (is : Some n ≡ when passed (Some (empty_from es first (first + (get_or runs k none).count - first))) None) where
+          told-of : (passed ≡ true) × (n ≡ empty_from es first (get_or runs k none).count)
+          told-of =
               let z : first + (get_or runs k none).count - first ≡ (get_or runs k none).count = omega arith in
-              let t = tells-sound r _ _ is n e in
+              let t = some_tells _ _ n is in
               (t.0, rw z at t.1)
 
           pub file-fits : empty + n ≤ length (laid runs)
-          file-fits = omega (arith, at.few, told.1, empty-most es first (get_or runs k none).count, file-most)
+          file-fits = omega (arith, at.few, told-of.1, empty-most es first (get_or runs k none).count, file-most)
 
-          pub file-on : (s : List ℕ) → length s ≡ length seen → (passed ≡ true → Marks es (first + (get_or runs k none).count) s)
+          pub file-on : (s : List ℕ) → Marks es (first + (get_or runs k none).count) s
               → (m : ℕ) → m ≡ empty + when (eqb (get_or runs k none).kind storage) n 0
-              → Filing seen₀ s m (first + (get_or runs k none).count) (k + 1)
+              → Filing s m (first + (get_or runs k none).count) (k + 1)
           unfolding spread
-          file-on s l w m c =
+          file-on s w m c =
               let r = get_or runs k none in
               let z : first + r.count - first ≡ r.count = omega arith in
               let behind = spread (first + r.count) (drop (suc k) (meant runs)) in
               let whole = rw (meant-from runs k four h) at at.counted in
               let split = shelves-of es r.count r.kind r.first first behind in
-              let here = rw told.1 at c in
+              let here = rw told-of.1 at c in
               record {
                 far = omega arith;
-                few = omega (arith, at.few, counts-most (eqb r.kind storage) n, told.1, empty-most es first r.count);
+                few = omega (arith, at.few, counts-most (eqb r.kind storage) n, told-of.1, empty-most es first r.count);
                 counted = rw add-one (omega (arith, whole, split, here));
                 long = rw add-one fits;
                 rest = λ i.
                     rw (add_assoc, add-one)
                     (at.rest ((get_or runs k none).count + i) ∙ rw (meant-from runs k four h) (walk-later (meaning (get_or runs k none)) (drop (suc k) (meant runs)) i));
-                so_far = run_on u top (laid runs) shelves has es r.kind first r.count here-kind at.so_far (rw z at told.0);
-                as_long = l ∙ at.as_long;
-                marks = w told.0;
+                so_far = run_on u top (laid runs) shelves has es r.kind first r.count here-kind at.so_far (rw z at told-of.0);
+                marks = w;
               }
 
-        pub file-stops : r ≡ Broken → false ≡ pass_sound u top panel (laid runs) es
-        unfolding pass_sound
-        file-stops e = all-stop false _ _ (go (sound_to u top (laid runs) es (length (laid runs))) refl) refl
+        pub file-stops : None ≡ when passed (Some (empty_from es first (first + (get_or runs k none).count - first))) None → None ≡ filed
+        unfolding when
+        file-stops e = go (sound_to u top (laid runs) es (length (laid runs))) refl
           where
-            go : (x : Bool) → sound_to u top (laid runs) es (length (laid runs)) ≡ x → false ≡ x
+            go : (x : Bool) → sound_to u top (laid runs) es (length (laid runs)) ≡ x → None ≡ when x (Some (empty_shelves (laid runs) es)) None
             go true f =
                 let r = get_or runs k none in
                 let z : first + r.count - first ≡ r.count = omega arith in
-                sym (tells-broken _ _ _ is e)
-                ∙ rw z (run-back u top (laid runs) shelves has es r.kind first r.count here-kind (length (laid runs)) file-most f)
+                let yes : passed ≡ true = rw z (run-back u top (laid runs) shelves has es r.kind first r.count here-kind (length (laid runs)) file-most f) in
+                let no : passed ≡ false = none_tells _ _ e in
+                let w : true ≡ false = sym yes ∙ no in cc
             go false f = refl
 
-    pub file-ends : 4 ≤ k → eqb panel empty ≡ pass_sound u top panel (laid runs) es
-    unfolding total spread empty_shelves pass_sound
+    pub file-ends : 4 ≤ k → Some empty ≡ filed
+    unfolding total spread empty_shelves when
     file-ends h =
         let e = rw (meant-end runs k four h) at at.long in
         let d : first ≡ length (laid runs) = omega arith in
         let c = rw (meant-end runs k four h) at at.counted in
         let n : empty ≡ empty_shelves (laid runs) es = omega arith in
-        all_go true _ _ _ (rw (← d) (sym at.so_far)) refl (all-last _ _ (rw n))
+        let s : sound_to u top (laid runs) es (length (laid runs)) ≡ true = rw (← d) at.so_far in
+        rw (s, n)

@@ -1,13 +1,13 @@
 -- In a sound head the storage addresses are those of the storage range. Assumes nothing.
 use Rattle.std.proofs.Common.{◌≡◌, ℕ, ◌+◌, ◌<◌, Bool, true, false, eqb, ◌≢◌, List, [], ◌∷◌, length, get_or, sym, refl, ap, ◌∙◌, inl, inr, arith, eq-eqb, ne_eqb}
-use Rattle.rules.specs.Choice.{when}
+use borrow.Author.Tests.{lt-leb}
+use Rattle.rules.specs.Choice.{when, all_of}
 use Rattle.rules.specs.Roster.{Range, range, ranges, spread, sorted, kind_of, storage}
 use Rattle.rules.specs.Ranges.{Each, Pairs, Differ}
 use Rattle.rules.specs.Sound.{ranges_sound, head_sound}
 use Rattle.rules.proofs.Ladder.{on, all_first, all_rest}
 use Rattle.rules.proofs.Ascending.{Before, each_map, ascending, kinds-differ}
 use Rattle.rules.proofs.Typed.{Among, among-sorted, each-among}
-use Rattle.sound_head.proofs.Tests.{all-le-stop}
 use Rattle.tables.specs.declared.Range.{Range as Code}
 use Rattle.tables.specs.Ranges.{meaning, meant, no_range, laid, lies, Runs}
 use Rattle.tables.proofs.Sort.{none, meant-at}
@@ -26,8 +26,8 @@ no-shelf (r ∷ rs) q a ps =
 
 -- behind all of a range it lies in no more
 past : (r s : Range) (a : ℕ) → Before r s → lies r a ≡ true → lies s a ≡ false
-unfolding lies
-past r s a b e = let l = lies-from r a e in sym (all-le-stop s.first a _ (omega arith))
+unfolding lies all_of when
+past r s a b e = let l = lies-from r a e in rw (lt-leb s.first a (omega arith))
 
 -- where no two ranges overlap, and no two are of one type
 module _ (s : Range) (is : s.kind ≡ storage) where

@@ -2,7 +2,7 @@
 use Rattle.std.specs.Prelude.{◌≡◌, ℕ, zero, suc, ◌+◌, ◌-◌, ◌*◌, ◌/◌, ◌%◌, ◌^◌, ◌<◌, ◌≤◌, Bool, true, not, List, [], ◌∷◌, length, ◌==◌, bit_or, nat_le, slice_index, slice_set}
 use Rattle.rules.specs.Choice.{when, any_of, all_of, differ, below}
 use Rattle.rules.specs.Bytes.{byte}
-use Rattle.rules.specs.Tables.{element_size, behind_last, search_type, next_address, volume, source, mark, holder, id, zero_byte, empty_shelves}
+use Rattle.rules.specs.Tables.{element_size, behind_last, search_type, next_address, volume, source, mark, holder, id, zero_byte}
 use Rattle.rules.specs.Roster.{Range, Slot, kind_at, kind_of, place_of, transport, storage, drive}
 use Rattle.rules.specs.Fitting.{accepts}
 use Rattle.rules.specs.Sound.{mark_sound, stock_sound, hold_sound, once}
@@ -63,10 +63,6 @@ unfoldable pub empty_from : List ℕ → ℕ → ℕ → ℕ
 empty_from elements p zero = 0
 empty_from elements p (suc n) = when (volume elements p == 0) 1 0 + empty_from elements (suc p) n
 
--- each element is sound, and as many shelves are empty as the panel shows
-unfoldable pub pass_sound : ℕ → ℕ → ℕ → List Slot → List ℕ → Bool
-pass_sound u top panel ss elements = all_of (sound_to u top ss elements (length ss) ∷ (panel == empty_shelves ss elements) ∷ [])
-
 -- ---- the volume numbers that were seen
 
 -- the number y stands at none of the first p places
@@ -84,9 +80,8 @@ marking seen v = slice_set seen (v / 64) (bit_or (slice_index seen (v / 64)) (2 
 pub record Marks (elements : List ℕ) (p : ℕ) (seen : List ℕ) : Type 0 where
   pub told : (y : ℕ) → 0 < y → y < 64 * length seen → marked seen y ≡ not (absent elements p y)
 
--- the places from `first` to before `end`: there are marks enough, and the volumes before them are marked
-pub record Run (top : ℕ) (elements : List ℕ) (first end : ℕ) (seen : List ℕ) : Type 0 where
-  pub numbers : top < 64 * length seen
+-- the places from `first` to before `end` are there, and the volumes before them are marked
+pub record Run (elements : List ℕ) (first end : ℕ) (seen : List ℕ) : Type 0 where
   pub in_order : first ≤ end
   pub there : element_size * end ≤ length elements
   pub before : Marks elements first seen

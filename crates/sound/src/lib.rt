@@ -6,165 +6,107 @@ pub mod element;
 mod marks;
 mod searches;
 
-ghost use Rattle.std.specs.Prelude.{◌≡◌, ℕ, true, false, List, length};
+ghost use Rattle.std.specs.Prelude.{◌≡◌, true, false, length, is_some, IfSome};
 ghost use Rattle.rules.specs.Choice.{when, below};
 ghost use Rattle.rules.specs.Bytes.{byte};
-ghost use Rattle.rules.specs.Tables.{head_size, most_generations, lent, others};
+ghost use Rattle.rules.specs.Tables.{most_generations, lent};
 ghost use Rattle.rules.specs.Roster.{ranges};
 ghost use Rattle.rules.specs.Sound.{within, sound, labels_sound, generations_sound, rest_sound};
 ghost use Rattle.tables.specs.Ranges.{meant, Runs};
+ghost use Rattle.tables.specs.Lent.{rest_of};
 
-use tables::Range;
+use element::Unit;
+use tables::{Fixed, Range};
 
 // "V at most 512; all lengths exact"
+#[tactic(auto, using(sound_head::proofs::Choices::choices), unfolding(rules::specs::Sound::labels_sound))]
 fn labels_sound(tags: &[u8], blank: &[u8]) -> bool
     ensures { result ≡ labels_sound tags.now blank.now }
 {
     let top = tables::volumes(tags);
-    if top > layout::MOST_VOLUMES {
-        return false;
-    }
-    if tags.len() != layout::TAG_SIZE * top {
-        return false;
-    }
-    if blank.len() != layout::TAG_SIZE {
-        return false;
-    }
-    true
+    top <= layout::MOST_VOLUMES
+        && tags.len() == layout::TAG_SIZE * top
+        && blank.len() == layout::TAG_SIZE
 }
 
-// "generation 1 to 8", after others that were all so, or not. 0 wraps round to 255, so that one test tells of both ends.
-fn still_within(fine: bool, generation: u8) -> bool
-    ensures { result ≡ when (within 1 most_generations generation) fine false }
+// "generation 1 to 8", in one test of both ends: 0 wraps round to 255.
+#[tactic(auto, using(crate::proofs::Generations::one_test))]
+fn known(generation: u8) -> bool
+    ensures { result ≡ within 1 most_generations generation }
 {
-    let from_first = std::num::wrapping_sub_u8(generation, 1);
-    if from_first >= layout::MOST_GENERATIONS {
-        return false;
-    }
-    fine
+    generation.wrapping_sub(1) < layout::MOST_GENERATIONS
 }
 
 // Each is 1 to 8. This goes over up to 512 bytes at every call: with one test a byte, and no way out before the end, the compiler takes 16 bytes at a time.
+#[tactic(auto, using(crate::proofs::Gathered::gathered), unfolding(rules::specs::Bytes::byte))]
 fn all_within(generations: &[u8]) -> bool
     ensures { result ≡ below (length generations.now) (λ i. within 1 most_generations (byte generations.now i)) }
 {
-    let n = generations.len();
     let mut fine = true;
-    let mut i: usize = 0;
-    while i < n {
-        fine = still_within(fine, generations[i]);
-        i += 1;
+    for generation in generations {
+        fine &= known(*generation);
     }
     fine
 }
 
 // "generation 1 to 8 for each volume": "Bad lengths or entries are number 1."
+#[tactic(auto, using(sound_head::proofs::Choices::choices), unfolding(rules::specs::Sound::generations_sound))]
 fn generations_sound(top: usize, generations: &[u8]) -> bool
     ensures { result ≡ generations_sound top generations.now }
 {
-    if generations.len() != top {
-        return false;
-    }
-    all_within(generations)
+    generations.len() == top && all_within(generations)
 }
 
 // The tables beside the head and the elements, as far as they do not hang on these.
-fn rest_sound(tags: &[u8], blank: &[u8], generations: &[u8], search: &[u8]) -> bool
-    ensures { (masks : List ℕ) → result ≡ rest_sound (others tags.now blank.now generations.now masks search.now) }
+#[tactic(auto, using(sound_head::proofs::Choices::choices), unfolding(rules::specs::Sound::rest_sound))]
+fn rest_sound(fixed: Fixed<'_>, search: &[u8]) -> bool
+    ensures { result ≡ rest_sound (rest_of fixed.entry search.now) }
 {
-    if !labels_sound(tags, blank) {
-        return false;
-    }
-    if !generations_sound(tables::volumes(tags), generations) {
-        return false;
-    }
-    searches::search_sound(search)
-}
-
-// What the check tells, and the runs of sound tables, which callers look up by.
-#[derive(Clone, Copy)]
-pub struct Checked {
-    pub sound: bool,
-    pub runs: [Range; 4],
-}
-
-// No runs, where a head is no head.
-fn no_runs() -> [Range; 4] {
-    let none = Range {
-        kind: 0,
-        first: 0,
-        count: 0,
-    };
-    [none, none, none, none]
+    labels_sound(fixed.tags, fixed.blank)
+        && generations_sound(tables::volumes(fixed.tags), fixed.generations)
+        && searches::search_sound(search)
 }
 
 // The head of these ranges, then what does not hang on it, then the elements by the runs of the ranges, with the number that the panel shows, then the drives.
+#[tactic(auto, using(sound_head::proofs::Choices::choices), unfolding(rules::specs::Sound::sound))]
 fn parts_sound(
     rs: [Range; 4],
     runs: [Range; 4],
-    head: &[u8],
+    head: &[u8; layout::HEAD_SIZE],
     elements: &[u8],
-    tags: &[u8],
-    blank: &[u8],
-    generations: &[u8],
-    masks: &[u8],
+    fixed: Fixed<'_>,
     search: &[u8],
 ) -> bool
-    requires head_len { length head.now ≡ head_size }
     requires rs_value { meant rs ≡ ranges head.now }
     requires runs { Runs runs head.now }
-    ensures { result ≡ sound (lent head.now elements.now (others tags.now blank.now generations.now masks.now search.now)) }
+    ensures { result ≡ sound (lent head.now elements.now (rest_of fixed.entry search.now)) }
 {
     if !sound_head::sound(rs, runs, head) {
         return false;
     }
-    if !rest_sound(tags, blank, generations, search) {
+    if !rest_sound(fixed, search) {
         return false;
     }
-    if !element::elements_sound(
-        rs[1],
-        runs,
-        tables::head::unit(head),
-        tables::volumes(tags),
-        tables::head::panel(head),
-        elements,
-    ) {
-        return false;
-    }
-    drives::drives_sound(rs[3], runs, elements, generations, masks)
+    let unit = Unit {
+        shelves: rs[1],
+        holder: tables::head::unit(head),
+        top: tables::volumes(fixed.tags),
+    };
+    element::elements_sound(unit, runs, tables::head::panel(head), elements)
+        && drives::drives_sound(rs[3], runs, elements, fixed)
 }
 
-// The check that every entry makes first: it reads any bytes of any lengths, each element once.
-pub fn check(
-    head: &[u8],
-    elements: &[u8],
-    tags: &[u8],
-    blank: &[u8],
-    generations: &[u8],
-    masks: &[u8],
-    search: &[u8],
-) -> Checked
-    ensures sound_value { result.sound ≡ sound (lent head.now elements.now (others tags.now blank.now generations.now masks.now search.now)) }
-    ensures runs { result.sound ≡ true → Runs result.runs head.now }
+// The check that every entry makes first: it reads any bytes of any lengths, each element once. Sound tables have runs, which callers look up by.
+pub fn check(head: &[u8], elements: &[u8], fixed: Fixed<'_>, search: &[u8]) -> Option<[Range; 4]>
+    ensures value { is_some result ≡ sound (lent head.now elements.now (rest_of fixed.entry search.now)) }
+    ensures runs { IfSome result (λ runs. Runs runs head.now) }
 {
-    if head.len() != layout::HEAD_SIZE {
-        return Checked {
-            sound: false,
-            runs: no_runs(),
-        };
-    }
+    let head: &[u8; layout::HEAD_SIZE] = head.as_array()?;
     let rs = tables::ranges(head);
     let runs = tables::sorted(rs);
-    let sound = parts_sound(
-        rs,
-        runs,
-        head,
-        elements,
-        tags,
-        blank,
-        generations,
-        masks,
-        search,
-    );
-    Checked { sound, runs }
+    if parts_sound(rs, runs, head, elements, fixed, search) {
+        Some(runs)
+    } else {
+        None
+    }
 }

@@ -1,24 +1,15 @@
 -- A host's record: what the check reads of host i + 1 is what the rules read of it. Assumes nothing.
-use Prim.Native.Nat.{ℕ, suc, ◌+◌, ◌*◌, ◌<◌, ◌≤◌}
-use native.Mathlib.Numerals.{add-one}
+use Prim.Native.Nat.{ℕ, zero, suc, ◌+◌, ◌-◌, ◌*◌, ◌<◌, ◌≤◌}
 use native.Mathlib.Omega.{arith}
-use mathlib.Core.Path.{◌≡◌, sym, ap, ◌∙◌}
-use mathlib.Core.Bool.{Bool}
-use mathlib.Core.List.{List}
-use Rattle.rules.specs.Choice.{when, any_of, all_of}
+use mathlib.Core.Path.{◌≡◌, refl, sym, ap, ◌∙◌}
+use mathlib.Core.Bool.{Bool, true, false}
+use mathlib.Core.List.{List, [], ◌∷◌}
+use Rattle.rules.specs.Choice.{when, any_of, all_of, below}
 use Rattle.rules.specs.Bytes.{byte, word}
 use Rattle.rules.specs.Tables.{hosts, host_at, key, asc, ascq, attention, attentionq}
 use Rattle.rules.specs.Sound.{sense_sound, attention_sound}
-use Rattle.rules.proofs.Ladder.{either, below_of}
-use Rattle.sound_head.specs.Hosts.{QuietHost, Quiet}
-
-pub sense-by : (head : List ℕ) (i k a q : ℕ) (b : Bool) → k ≡ key head (i + 1) → a ≡ asc head (i + 1) → q ≡ ascq head (i + 1)
-    → b ≡ sense_sound k a q → b ≡ sense_sound (key head (suc i)) (asc head (suc i)) (ascq head (suc i))
-sense-by head i k a q b e f g w = w ∙ rw (e, f, g, add-one)
-
-pub attention-by : (head : List ℕ) (i a q : ℕ) (b : Bool) → a ≡ attention head (i + 1) → q ≡ attentionq head (i + 1)
-    → b ≡ attention_sound a q → b ≡ attention_sound (attention head (suc i)) (attentionq head (suc i))
-attention-by head i a q b e f w = w ∙ rw (e, f, add-one)
+use Rattle.rules.proofs.Ladder.{below_of, below_fails}
+use Rattle.sound_head.specs.Hosts.{sense_at, attention_at, QuietHost, host_sound, hosts_sound}
 
 -- ---- the short way: a host whose bytes are zeros
 
@@ -34,21 +25,29 @@ quiet-host head h at x y q is e f z g n =
     let l : attentionq head h ≡ 0 = sym g ∙ n in
     record { sense = rw (a, b, c); told = rw (d, l) }
 
--- the first i hosts are quiet
-pub record Quieter (head : List ℕ) (i : ℕ) : Type 0 where
-  pub far : i ≤ hosts
-  pub each : (j : ℕ) → j < i → QuietHost head (suc j)
+-- ---- host after host
 
-pub quiet_none : (head : List ℕ) → Quieter head 0
-quiet_none head = record { far = omega arith; each = λ j h. absurd (let z : ⊥ = omega arith in z) }
+below_both : (n : ℕ) (f g : ℕ → Bool) → below n (λ p. all_of (f p ∷ g p ∷ [])) ≡ all_of (below n f ∷ below n g ∷ [])
+unfolding below all_of when
+below_both zero f g = refl
+below_both (suc n) f g = go (f n) (g n) (below n f) (below n g) (below_both n f g)
+  where
+    go : (a b x y : Bool) → below n (λ p. all_of (f p ∷ g p ∷ [])) ≡ all_of (x ∷ y ∷ [])
+        → when (all_of (a ∷ b ∷ [])) (below n (λ p. all_of (f p ∷ g p ∷ []))) false ≡ all_of (when a x false ∷ when b y false ∷ [])
+    go true true x y ih = ih
+    go true false true y ih = refl
+    go true false false y ih = refl
+    go false b x y ih = refl
 
-pub quiet-more : (head : List ℕ) (i : ℕ) → Quieter head i → i < hosts → QuietHost head (i + 1) → Quieter head (i + 1)
-quiet-more head i at h one =
-    record { far = omega arith; each = λ j l. either j i (λ e. rw (e, ← add-one) one) (λ d. at.each j (omega arith)) }
+-- the test of each host is both tests of all
+hosts-by : (head : List ℕ) → below hosts (λ i. host_sound head (suc i)) ≡ hosts_sound head
+unfolding host_sound
+hosts-by head = below_both hosts (sense_at head) (attention_at head)
 
-pub quiet_all : (head : List ℕ) (i : ℕ) → Quieter head i → hosts ≤ i → Quiet head
-quiet_all head i at h =
-    record {
-      senses = below_of hosts _ (λ j l. (at.each j (omega (arith, at.far))).sense);
-      attentions = below_of hosts _ (λ j l. (at.each j (omega (arith, at.far))).told);
-    }
+pub all_pass : (head : List ℕ) → ((h : ℕ) → 1 ≤ h → h < 9 → host_sound head h ≡ true) → true ≡ hosts_sound head
+all_pass head pass = sym (below_of hosts _ (λ i l. pass (suc i) (omega arith) (omega arith))) ∙ hosts-by head
+
+pub one_fails : (head : List ℕ) (h : ℕ) → 1 ≤ h → h < 9 → host_sound head h ≡ false → false ≡ hosts_sound head
+one_fails head h some most e =
+    let is : h ≡ suc (h - 1) = omega arith in
+    sym (below_fails hosts (λ i. host_sound head (suc i)) (h - 1) (omega arith) (rw (← is) e)) ∙ hosts-by head

@@ -1,4 +1,3 @@
-pub mod Tests
-pub mod Loops
 pub mod Ranges
 pub mod Hosts
+pub mod Choices

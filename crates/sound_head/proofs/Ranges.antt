@@ -18,45 +18,39 @@ use Rattle.tables.specs.Ranges.{meaning, meant}
 use Rattle.tables.proofs.Sort.{none, on-four, meant-at}
 use Rattle.sound_head.specs.Counts.{counts_fit}
 use Rattle.sound_head.specs.InLine.{each_sound, before, in_line}
+use Rattle.sound_head.proofs.Choices.{choices}
 
 -- ---- the counts
 
-pub counts-by : (rs : List Code) → length rs ≡ 4 → (z : Bool)
-    → z ≡ counts_sound (get_or rs 0 none).count (get_or rs 1 none).count (get_or rs 2 none).count (get_or rs 3 none).count → z ≡ counts_fit (meant rs)
+pub counts-four : (rs : List Code) → length rs ≡ 4
+    → counts_fit (meant rs) ≡ counts_sound (get_or rs 0 none).count (get_or rs 1 none).count (get_or rs 2 none).count (get_or rs 3 none).count
 unfolding counts_fit
-counts-by rs four z e =
-    rw (meant-at rs 0 none (omega arith), meant-at rs 1 none (omega arith), meant-at rs 2 none (omega arith), meant-at rs 3 none (omega arith)) e
+counts-four rs four =
+    rw (meant-at rs 0 none (omega arith), meant-at rs 1 none (omega arith), meant-at rs 2 none (omega arith), meant-at rs 3 none (omega arith))
 
 -- ranges that mean the head's: what was told of them is told of the head
-module _ (head : List ℕ) (l : List Range) (b : Bool) (is : l ≡ ranges head) where
-  pub counts-at : b ≡ counts_fit l → b ≡ counts_sound (range head 0).count (range head 1).count (range head 2).count (range head 3).count
-  unfolding counts_fit ranges
-  counts-at e = rw is at e
-
-  pub ranges-at : b ≡ ranges_sound l → b ≡ ranges_sound (ranges head)
-  ranges-at e = rw is at e
-
-pub sorted-at : (head : List ℕ) (l s : List Range) → l ≡ ranges head → s ≡ sorted (ranges head) → s ≡ sorted l
-sorted-at head l s is e = rw is e
+pub counts-at : (head : List ℕ) → counts_fit (ranges head) ≡ counts_sound (range head 0).count (range head 1).count (range head 2).count (range head 3).count
+unfolding counts_fit ranges
+counts-at head = refl
 
 -- ---- the four, one by one
 
-module _ (rs : List Code) (four : length rs ≡ 4) (z : Bool) where
-  pub each-by : z ≡ all_of (range_sound (meaning (get_or rs 0 none)) ∷ range_sound (meaning (get_or rs 1 none)) ∷ range_sound (meaning (get_or rs 2 none)) ∷ range_sound (meaning (get_or rs 3 none)) ∷ [])
-      → z ≡ each_sound (meant rs)
+module _ (rs : List Code) (four : length rs ≡ 4) where
+  pub each-four : each_sound (meant rs)
+      ≡ all_of (range_sound (meaning (get_or rs 0 none)) ∷ range_sound (meaning (get_or rs 1 none)) ∷ range_sound (meaning (get_or rs 2 none)) ∷ range_sound (meaning (get_or rs 3 none)) ∷ [])
   unfolding each_sound meant
-  each-by =
+  each-four =
       on-four
-      (λ (l : List Code). z ≡ all_of (range_sound (meaning (get_or l 0 none)) ∷ range_sound (meaning (get_or l 1 none)) ∷ range_sound (meaning (get_or l 2 none)) ∷ range_sound (meaning (get_or l 3 none)) ∷ []) → z ≡ each_sound (meant l))
-      rs four (λ a b c d e. e)
+      (λ (l : List Code). each_sound (meant l) ≡ all_of (range_sound (meaning (get_or l 0 none)) ∷ range_sound (meaning (get_or l 1 none)) ∷ range_sound (meaning (get_or l 2 none)) ∷ range_sound (meaning (get_or l 3 none)) ∷ []))
+      rs four (λ a b c d. refl)
 
-  pub line-by : z ≡ all_of (before (meaning (get_or rs 0 none)) (meaning (get_or rs 1 none)) ∷ before (meaning (get_or rs 1 none)) (meaning (get_or rs 2 none)) ∷ before (meaning (get_or rs 2 none)) (meaning (get_or rs 3 none)) ∷ [])
-      → z ≡ in_line (meant rs)
+  pub line-four : in_line (meant rs)
+      ≡ all_of (before (meaning (get_or rs 0 none)) (meaning (get_or rs 1 none)) ∷ before (meaning (get_or rs 1 none)) (meaning (get_or rs 2 none)) ∷ before (meaning (get_or rs 2 none)) (meaning (get_or rs 3 none)) ∷ [])
   unfolding in_line meant all_of
-  line-by =
+  line-four =
       on-four
-      (λ (l : List Code). z ≡ all_of (before (meaning (get_or l 0 none)) (meaning (get_or l 1 none)) ∷ before (meaning (get_or l 1 none)) (meaning (get_or l 2 none)) ∷ before (meaning (get_or l 2 none)) (meaning (get_or l 3 none)) ∷ []) → z ≡ in_line (meant l))
-      rs four (λ a b c d e. e)
+      (λ (l : List Code). in_line (meant l) ≡ all_of (before (meaning (get_or l 0 none)) (meaning (get_or l 1 none)) ∷ before (meaning (get_or l 1 none)) (meaning (get_or l 2 none)) ∷ before (meaning (get_or l 2 none)) (meaning (get_or l 3 none)) ∷ []))
+      rs four (λ a b c d. refl)
 
 -- ---- sorting: what holds of the sorted holds of the ranges
 
@@ -166,7 +160,7 @@ agree true b f g = sym (f refl)
 agree false true f g = g refl
 agree false false f g = refl
 
-ranges-are : (rs : List Range) → ranges_sound rs ≡ all_of (each_sound rs ∷ in_line (sorted rs) ∷ [])
+pub ranges-are : (rs : List Range) → ranges_sound rs ≡ all_of (each_sound rs ∷ in_line (sorted rs) ∷ [])
 ranges-are rs =
     agree _ _
     (λ e. all_cons _ _ (to-each rs e) (all_cons _ _ (pairs-line (sorted rs) (ascending rs e)) all_nil))
@@ -174,6 +168,5 @@ ranges-are rs =
     let line = line-pairs (sorted rs) (all_first _ _ (all_rest _ _ e)) in
     from_each rs (all_first _ _ e) (pairs-sorted Clear clear-back rs (pairs-clear (sorted rs) line)))
 
-pub ranges-by : (rs runs : List Code) → meant runs ≡ sorted (meant rs) → (z : Bool) → z ≡ all_of (each_sound (meant rs) ∷ in_line (meant runs) ∷ [])
-    → z ≡ ranges_sound (meant rs)
-ranges-by rs runs is z e = rw (ranges-are (meant rs), ← is) e
+-- for `grind`: what is asked of the ranges, test by test
+pub ruleset by_ranges = (choices, counts-four, counts-at, each-four, line-four, ranges-are)

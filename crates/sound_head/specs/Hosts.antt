@@ -14,12 +14,11 @@ attention_at head i = attention_sound (attention head (suc i)) (attentionq head 
 abbrev pub hosts_sound : List ℕ → Bool
 hosts_sound head = all_of (below hosts (sense_at head) ∷ below hosts (attention_at head) ∷ [])
 
--- it holds of a host
+-- what is asked of a host by its number
+unfoldable pub host_sound : List ℕ → ℕ → Bool
+host_sound head h = all_of (sense_sound (key head h) (asc head h) (ascq head h) ∷ attention_sound (attention head h) (attentionq head h) ∷ [])
+
+-- both are sound: so it is where a host has neither
 pub record QuietHost (head : List ℕ) (h : ℕ) : Type 0 where
   pub sense : sense_sound (key head h) (asc head h) (ascq head h) ≡ true
   pub told : attention_sound (attention head h) (attentionq head h) ≡ true
-
--- and of all
-pub record Quiet (head : List ℕ) : Type 0 where
-  pub senses : below hosts (sense_at head) ≡ true
-  pub attentions : below hosts (attention_at head) ≡ true

@@ -12,9 +12,9 @@ use Rattle.rules.specs.Command.{act, steps_of}
 use Rattle.rules.proofs.Untouched.{conflict-fits, refused-fits}
 use Rattle.operation.specs.declared.Operation.{Operation}
 use Rattle.operation.specs.Meaning.{meaning}
-use Rattle.admission.specs.declared.Admission.{Admission}
-use Rattle.admission.specs.declared.Admission.TheVariants.{Pending, Held, Faulty, Open}
-use Rattle.admission.specs.Admitting.{admission, on_admission}
+use Rattle.std.specs.Prelude.{Ok, Err}
+use Rattle.admission.specs.declared.Barrier.TheVariants.{Pending, Held, Faulty}
+use Rattle.admission.specs.Admitting.{Admission, admission, on_admission}
 use Rattle.admission.proofs.Admissions.{is-pending, admission-is}
 
 -- attention that is told is told without bytes
@@ -29,18 +29,18 @@ module _ (op : Operation) (t : Tables) (h : ℕ) (block list buffer : List ℕ) 
   unfolding steps_of
   by a e = sym (admission-is op t h block list g is (act (meaning op) t h block list) ∙ rw e refl)
 
-  pub pending-ends : g ≡ Pending → after_attention t h (act (meaning op) t h block list) ≡ fits buffer (steps_of (meaning op) t h block list)
+  pub pending-ends : g ≡ Err Pending → after_attention t h (act (meaning op) t h block list) ≡ fits buffer (steps_of (meaning op) t h block list)
   unfolding on_admission
-  pending-ends e = sym (attention-fits t h buffer _ (is-pending op t h block list g is e)) ∙ ap (fits buffer) (by Pending e)
+  pending-ends e = sym (attention-fits t h buffer _ (is-pending op t h block list g is e)) ∙ ap (fits buffer) (by (Err Pending) e)
 
-  pub held-ends : g ≡ Held → conflict h ≡ fits buffer (steps_of (meaning op) t h block list)
+  pub held-ends : g ≡ Err Held → conflict h ≡ fits buffer (steps_of (meaning op) t h block list)
   unfolding on_admission
-  held-ends e = sym (conflict-fits t h block buffer) ∙ ap (fits buffer) (by Held e)
+  held-ends e = sym (conflict-fits t h block buffer) ∙ ap (fits buffer) (by (Err Held) e)
 
-  pub faulty-ends : (at : ℕ) → g ≡ Faulty at → refused h (InvalidField at) ≡ fits buffer (steps_of (meaning op) t h block list)
+  pub faulty-ends : (at : ℕ) → g ≡ Err (Faulty at) → refused h (InvalidField at) ≡ fits buffer (steps_of (meaning op) t h block list)
   unfolding on_admission
-  faulty-ends at e = sym (refused-fits t h block buffer (InvalidField at)) ∙ ap (fits buffer) (by (Faulty at) e)
+  faulty-ends at e = sym (refused-fits t h block buffer (InvalidField at)) ∙ ap (fits buffer) (by (Err (Faulty at)) e)
 
-  pub open-ends : g ≡ Open → fits buffer (act (meaning op) t h block list) ≡ fits buffer (steps_of (meaning op) t h block list)
+  pub open-ends : g ≡ Ok (tt {0}) → fits buffer (act (meaning op) t h block list) ≡ fits buffer (steps_of (meaning op) t h block list)
   unfolding on_admission
-  open-ends e = ap (fits buffer) (by Open e)
+  open-ends e = ap (fits buffer) (by (Ok (tt {0})) e)

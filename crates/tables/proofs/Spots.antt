@@ -19,7 +19,7 @@ lies-from r a e =
     (leb-true r.first a (all_first _ _ e), ltb-true a (r.first + r.count) (all_first _ _ (all_rest _ _ e)))
 
 -- what it is behind the first address, wrapped where it is before it, is then below the count, and only then
-pub lies-wrapped : (r : Range) (a w : ℕ) → (w + r.first) % 2 ^ 32 ≡ a → w < 2 ^ 32 → a < 2 ^ 32 → r.first ≤ 65535 → r.count ≤ 65535 → ltb w r.count ≡ lies r a
+pub lies-wrapped : (r : Range) (a w : ℕ) → w ≡ (a + (2 ^ 32 - r.first)) % 2 ^ 32 → w < 2 ^ 32 → a < 2 ^ 32 → r.first ≤ 65535 → r.count ≤ 65535 → ltb w r.count ≡ lies r a
 unfolding lies all_of when
 lies-wrapped r a w e lw la lf lc = go (leb r.first a) (ltb a (r.first + r.count)) refl refl
   where

@@ -1,12 +1,10 @@
 -- What a look-up answers, said of the elements alone. Assumes nothing.
-use Rattle.std.specs.Prelude.{ℕ, Bool, List, ◌==◌}
+use Rattle.std.specs.Prelude.{ℕ, Bool, List, ◌==◌, Option, Some, None}
 use Rattle.rules.specs.Choice.{when, differ}
 use Rattle.rules.specs.Roster.{Slot, place_of, kind_of, transport, port}
 use Rattle.tables.specs.declared.Spot.{Spot}
 use Rattle.tables.specs.declared.Types.{Types}
 use Rattle.tables.specs.declared.Types.TheVariants.{Any, Transport, Port}
-use Rattle.tables.specs.declared.Found.{Found}
-use Rattle.tables.specs.declared.Found.TheVariants.{At, Nothing}
 
 -- an element of type k is looked for: any element; a transport; an import/export element
 unfoldable pub admits : Types → ℕ → Bool
@@ -15,8 +13,8 @@ admits Transport k = k == transport
 admits Port k = k == port
 
 -- the place of an address, if it is an element's of these types
-unfoldable pub found : Types → List Slot → ℕ → Found
-found ts ss a = when (admits ts (kind_of ss a)) (At (place_of ss a)) Nothing
+unfoldable pub found : Types → List Slot → ℕ → Option ℕ
+found ts ss a = when (admits ts (kind_of ss a)) (Some (place_of ss a)) None
 
 abbrev pub spot : ℕ → ℕ → Spot
 spot k p = record { kind = k; place = p }
@@ -26,6 +24,6 @@ unfoldable pub spot_of : List Slot → ℕ → Spot
 spot_of ss a = spot (kind_of ss a) (place_of ss a)
 
 -- by cases on a look-up's answer
-unfoldable pub on_found : {A : Type 0} → Found → (ℕ → A) → A → A
-on_found (At p) f y = f p
-on_found Nothing f y = y
+unfoldable pub on_found : {A : Type 0} → Option ℕ → (ℕ → A) → A → A
+on_found (Some p) f y = f p
+on_found None f y = y

@@ -1,4 +1,4 @@
-// The fields of the element at a place, and the writes.
+// The fields of the element at a place, and the writes. That the place is in the table is asked of each: it is a fact of a place and a table together, and the tables change.
 ghost use Rattle.std.specs.Prelude.{◌≡◌, ◌+◌, ◌≤◌, length};
 ghost use Rattle.rules.specs.Tables.{element_size, element_at, places, volume, source, holder, id, mark, zero_byte, filled, held_at};
 
@@ -73,10 +73,9 @@ pub fn hold(elements: &mut [u8], place: usize, host: u8, id: u8)
     requires { element_at place + element_size ≤ length elements.old }
     ensures { elements.new ≡ held_at host id place elements.old }
 {
-    wire::put_two(
+    wire::put(
         elements,
         layout::ELEMENT_SIZE * place + layout::HOLDER,
-        host,
-        id,
+        [host, id],
     );
 }

@@ -1,4 +1,5 @@
-// The fields of the head, and the writes.
+// The fields of the head, and the writes. Each asks for the length and the host's number, and takes no `Host` and no array that would say them: the case program lends
+// heads of any length that has room, and hosts by the number of its line.
 ghost use Rattle.std.specs.Prelude.{◌≡◌, ◌+◌, ◌≤◌, length};
 ghost use Rattle.rules.specs.Tables.{head_size, hosts, unit, mask, key, asc, ascq, attention, attentionq, panel, unit_held, masked, sensed, attended, shown};
 
@@ -108,7 +109,7 @@ pub fn attend(head: &mut [u8], host: u8, asc: u8, ascq: u8)
     requires host_le_hosts { host ≤ hosts }
     ensures { head.new ≡ attended head.old host asc ascq }
 {
-    wire::put_two(head, layout::attention_at(host), asc, ascq);
+    wire::put(head, layout::attention_at(host), [asc, ascq]);
 }
 
 // The number that the panel shows.

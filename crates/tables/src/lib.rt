@@ -8,12 +8,12 @@ pub mod mask;
 
 ghost use Rattle.std.specs.Prelude.{◌≡◌, ◌+◌, ◌-◌, ◌<◌, ◌≤◌, true, length};
 ghost use Rattle.rules.specs.Choice.{when};
-ghost use Rattle.rules.specs.Tables.{head_size, volumes as volumesOf};
+ghost use Rattle.rules.specs.Tables.{head_size, hosts, volumes as volumesOf};
 ghost use Rattle.rules.specs.Roster.{range, ranges as rangesOf, sorted as sortedOf, first_transport};
 ghost use Rattle.tables.specs.Ranges.{meaning, meant, laid, inserted, lies, leads, Runs};
 ghost use Rattle.tables.specs.LookUp.{admits, found, spot, spot_of};
 
-// "each first address and count": of one type
+// "each first address and count": of one type, by its code: the rules and the bytes of blocks and answers have that number, and 0 for no type.
 #[derive(Clone, Copy)]
 pub struct Range {
     pub kind: u8,
@@ -29,18 +29,27 @@ pub struct Spot {
 }
 
 // Of which types an element is looked for: any, a transport, an import/export element.
-#[derive(Clone, Copy)]
+#[derive(Clone, Copy, PartialEq, Eq)]
 pub enum Types {
     Any,
     Transport,
     Port,
 }
 
-// What looking an address up answers.
+// A host that the unit knows: "1 to 8".
+#[derive(Clone, Copy, PartialEq, Eq)]
+pub struct Host {
+    pub number: u8,
+    ghost known: { (1 ≤ number) × (number ≤ hosts) },
+}
+
+// The tables that no command writes.
 #[derive(Clone, Copy)]
-pub enum Found {
-    At(usize),
-    Nothing,
+pub struct Fixed<'a> {
+    pub tags: &'a [u8],
+    pub blank: &'a [u8],
+    pub generations: &'a [u8],
+    pub masks: &'a [u8],
 }
 
 // The k-th range of the head, from 0; it is of type k + 1.
@@ -154,7 +163,7 @@ pub fn lies_in(r: Range, address: u32) -> bool
 {
     let first = r.first as u32;
     let count = r.count as u32;
-    let within = std::num::wrapping_sub_u32(address, first);
+    let within = address.wrapping_sub(first);
     within < count
 }
 
@@ -213,17 +222,17 @@ fn admits(types: Types, kind: u8) -> bool
 }
 
 // The place of an element of a type, if it is one of those looked for.
-fn pick(types: Types, kind: u8, place: usize) -> Found
-    ensures { result ≡ when (admits types kind) (Found.At place) Found.Nothing }
+fn pick(types: Types, kind: u8, place: usize) -> Option<usize>
+    ensures { result ≡ when (admits types kind) (Some place) None }
 {
     if admits(types, kind) {
-        return Found::At(place);
+        return Some(place);
     }
-    Found::Nothing
+    None
 }
 
 // The place of an address, if the element there is of these types.
-pub fn find(runs: [Range; 4], address: u32, types: Types) -> Found
+pub fn find(runs: [Range; 4], address: u32, types: Types) -> Option<usize>
     ensures { result ≡ found types (laid runs) address }
 {
     let s = spot_of(runs, address);
@@ -234,10 +243,7 @@ pub fn find(runs: [Range; 4], address: u32, types: Types) -> Found
 fn leads(r: Range) -> bool
     ensures { result ≡ leads (meaning r) }
 {
-    if r.kind == layout::TRANSPORT {
-        return r.count != 0;
-    }
-    false
+    r.kind == layout::TRANSPORT && r.count != 0
 }
 
 // "Transport 0 means the lowest-addressed one": its address; 0 where there is none.

@@ -1,28 +1,23 @@
--- A run of bytes written to the front of a list, one byte after the other. Assumes nothing.
-use Prim.Native.Nat.{ℕ, suc, ◌+◌, ◌<◌, ◌≤◌}
-use native.Mathlib.Numerals.{add-one}
-use native.Mathlib.Nat.{add-suc, suc-add, add-zero, zero-add}
+-- A run of bytes written into a list as a whole. Assumes nothing.
+use Prim.Native.Nat.{ℕ, ◌+◌, ◌-◌, ◌≤◌}
 use native.Mathlib.Omega.{arith}
-use mathlib.Core.Path.{◌≡◌, refl, ◌∙◌}
-use mathlib.Core.List.{List, [], ◌∷◌, ◌++◌}
-use lib.ListN.{length, take, get_or, set}
-use lib.Seq.{sets, take-suc, take_all, length-take-le}
+use native.Mathlib.Nat.{zero-add}
+use mathlib.Core.Path.{◌≡◌, refl, sym, ap, ◌∙◌}
+use mathlib.Core.List.{List, ◌++◌, append_assoc}
+use lib.ListN.{length, take, drop}
+use lib.Seq.{sets-eq}
+use borrow.Rule.Slice.PartMut.{put_mid, Post-is}
 use Rattle.rules.specs.Bytes.{put}
 
--- the last byte of a run, by itself
-sets-snoc : (vs l : List ℕ) (i x : ℕ) → sets l i (vs ++ (x ∷ [])) ≡ set (sets l i vs) (i + length vs) x
-sets-snoc [] l i x = rw add-zero refl
-sets-snoc (v ∷ vs) l i x = sets-snoc vs (set l i v) (suc i) x ∙ rw (suc-add, add-suc)
-
-pub put-none : (l : List ℕ) → l ≡ put l 0 []
+-- to the front
+pub put-front : (l bytes : List ℕ) → length bytes ≤ length l → bytes ++ drop (length bytes) l ≡ put l 0 bytes
 unfolding put
-put-none l = refl
+put-front l bytes h = ap (λ (n : ℕ). bytes ++ drop n l) (sym (zero-add (length bytes))) ∙ sym (sets-eq bytes l 0 (omega arith))
 
-pub put-more : (l src : List ℕ) (i : ℕ) → i < length src → set (put l 0 (take i src)) i (get_or src i 0) ≡ put l 0 (take (i + 1) src)
+-- from i to before e
+pub put-middle : (l bytes : List ℕ) (i e : ℕ) → i ≤ e → e ≤ length l → i + length bytes ≡ e → put_mid i (e - i) l bytes ≡ put l i bytes
 unfolding put
-put-more l src i h =
-    let e : 0 + length (take i src) ≡ i = zero-add (length (take i src)) ∙ length-take-le i src (omega arith) in
-    rw (add-one, take-suc src i 0 h, sets-snoc (take i src) l 0 (get_or src i 0), e)
-
-pub put_all : (l src : List ℕ) (i : ℕ) → length src ≤ i → put l 0 (take i src) ≡ put l 0 src
-put_all l src i h = rw (take_all i src h)
+put-middle l bytes i e h g w =
+    ap (λ (r : List ℕ). take i l ++ (bytes ++ r)) (Post-is i e l h ∙ ap (λ (n : ℕ). drop n l) (sym w))
+    ∙ sym (append_assoc (take i l) bytes (drop (i + length bytes) l))
+    ∙ sym (sets-eq bytes l i (omega arith))

@@ -1,4 +1,4 @@
-// Numbers of two and three bytes in slices, high byte first, runs of bytes, the lesser of two numbers and a difference that stops at 0.
+// Numbers of two and three bytes in slices, high byte first, runs of bytes, and slices of a known length as arrays.
 #![tactic(auto)]
 
 ghost use Rattle.std.specs.Prelude.{◌≡◌, [], ◌∷◌, ◌+◌, ◌*◌, ◌-◌, ◌≤◌, ◌<◌, min, length};
@@ -8,7 +8,7 @@ ghost use Rattle.rules.specs.Bytes.{word, triple, three, put, high, low};
 pub fn join(high: u8, low: u8) -> u16
     ensures { result ≡ high * 256 + low }
 {
-    (high as u16) * 256 + (low as u16)
+    u16::from_be_bytes([high, low])
 }
 
 // A byte and the two below it as one number.
@@ -34,23 +34,12 @@ pub fn triple_at(xs: &[u8], i: usize) -> u32
     extend(xs[i], word_at(xs, i + 1))
 }
 
-// Two bytes from i on.
-pub fn put_two(xs: &mut [u8], i: usize, a: u8, b: u8)
-    requires { i + 2 ≤ length xs.old }
-    ensures { xs.new ≡ put xs.old i (a ∷ b ∷ []) }
+// The bytes from i on.
+pub fn put<const N: usize>(xs: &mut [u8], i: usize, bytes: [u8; N])
+    requires { i + N ≤ length xs.old }
+    ensures { xs.new ≡ put xs.old i bytes.entry }
 {
-    xs[i] = a;
-    xs[i + 1] = b;
-}
-
-// Three bytes from i on.
-pub fn put_three(xs: &mut [u8], i: usize, a: u8, b: u8, c: u8)
-    requires { i + 3 ≤ length xs.old }
-    ensures { xs.new ≡ put xs.old i (a ∷ b ∷ c ∷ []) }
-{
-    xs[i] = a;
-    xs[i + 1] = b;
-    xs[i + 2] = c;
+    xs[i..i + N].copy_from_slice(&bytes);
 }
 
 // The number v in the two bytes from i on.
@@ -58,7 +47,7 @@ pub fn put_word(xs: &mut [u8], i: usize, v: u16)
     requires { i + 2 ≤ length xs.old }
     ensures { xs.new ≡ put xs.old i (high v ∷ low v ∷ []) }
 {
-    put_two(xs, i, (v / 256) as u8, (v % 256) as u8);
+    put(xs, i, v.to_be_bytes());
 }
 
 // The number v, which three bytes hold, in the three bytes from i on.
@@ -67,12 +56,10 @@ pub fn put_triple(xs: &mut [u8], i: usize, v: u32)
     requires v_bound { v < 16777216 }
     ensures { xs.new ≡ put xs.old i (three v) }
 {
-    put_three(
+    put(
         xs,
         i,
-        (v / 65536) as u8,
-        (v / 256 % 256) as u8,
-        (v % 256) as u8,
+        [(v / 65536) as u8, (v / 256 % 256) as u8, (v % 256) as u8],
     );
 }
 
@@ -81,30 +68,13 @@ pub fn copy(dst: &mut [u8], src: &[u8])
     requires { length src.now ≤ length dst.old }
     ensures { dst.new ≡ put dst.old 0 src.now }
 {
-    let n = src.len();
-    let mut i: usize = 0;
-    while i < n {
-        dst[i] = src[i];
-        i += 1;
-    }
+    dst[..src.len()].copy_from_slice(src);
 }
 
-// The lesser of two numbers.
-pub fn least(a: usize, b: usize) -> usize
-    ensures { result ≡ min a b }
+// A slice of a known length as an array.
+pub fn whole<const N: usize>(xs: &[u8]) -> &[u8; N]
+    requires { length xs.now ≡ N }
+    ensures { result.now ≡ xs.now }
 {
-    if a < b {
-        return a;
-    }
-    b
-}
-
-// A difference that stops at 0.
-pub fn less(a: usize, b: usize) -> usize
-    ensures { result ≡ a - b }
-{
-    if a < b {
-        return 0;
-    }
-    a - b
+    xs.as_array().unwrap()
 }

@@ -1,5 +1,6 @@
 -- `acts::act` meets its contract. Assumes nothing.
-use mathlib.Core.Path.{sym, ◌∙◌}
+use native.Mathlib.Omega.{arith}
+use mathlib.Core.Path.{refl, sym, ◌∙◌}
 use mathlib.Core.List.{[]}
 use Rattle.rules.specs.Tables.{lent, bare}
 use Rattle.rules.specs.Command.{act}
@@ -7,150 +8,133 @@ use Rattle.rules.proofs.Untouched.{good-fits, move-fits, exchange-fits, reserve-
 use Rattle.rules.proofs.Rungs.{ends_as}
 use Rattle.rules.proofs.Pages.{answered}
 use Rattle.order.specs.Ending.{reason}
+use Rattle.tables.specs.Lent.{rest_of}
 use Rattle.operation.specs.Meaning.{meaning}
 use Rattle.operation.proofs.Lengths.{sized}
+use Rattle.moves.specs.Judged.{carry_verdict}
 use Rattle.acts.proofs.Supply.{findable}
 use Rattle.acts.proofs.Chosen.{acts}
 use Rattle.acts.proofs.act.Goals as goal
 
-pub good-requires : goal.good-requires
-good-requires c =
-    let s = c.requires.served in
-    record { head_size_in_bounds = s.suited.ready-to-move.head-length; host_le_hosts = s.host-most }
-
-pub request_sense-requires : goal.request_sense-requires
+pub whole-requires : goal.whole-requires
 unfolding meaning
-request_sense-requires c =
-    let s = c.requires.served in
-    record { head_size_in_bounds = s.suited.ready-to-move.head-length; host_le_hosts = s.host-most; block_len = sized _ _ _ s.fitting c.in-RequestSense.is }
+whole-requires c = (omega arith, sized _ _ _ c.requires.served.fitting c.in-RequestSense.is)
+
+pub whole-requires-in-Reserve : goal.whole-requires-in-Reserve
+unfolding meaning
+whole-requires-in-Reserve c = (omega arith, sized _ _ _ c.requires.served.fitting c.in-Reserve.is)
+
+pub whole-requires-in-Release : goal.whole-requires-in-Release
+unfolding meaning
+whole-requires-in-Release c = (omega arith, sized _ _ _ c.requires.served.fitting c.in-Release.is)
+
+pub whole-requires-in-PreventAllow : goal.whole-requires-in-PreventAllow
+unfolding meaning
+whole-requires-in-PreventAllow c = (omega arith, sized _ _ _ c.requires.served.fitting c.in-PreventAllow.is)
+
+pub whole-requires-in-MoveMedium : goal.whole-requires-in-MoveMedium
+unfolding meaning
+whole-requires-in-MoveMedium c = (omega arith, sized _ _ _ c.requires.served.fitting c.in-MoveMedium.is)
+
+pub whole-requires-in-ExchangeMedium : goal.whole-requires-in-ExchangeMedium
+unfolding meaning
+whole-requires-in-ExchangeMedium c = (omega arith, sized _ _ _ c.requires.served.fitting c.in-ExchangeMedium.is)
+
+pub whole-requires-in-ReadElementStatus : goal.whole-requires-in-ReadElementStatus
+unfolding meaning
+whole-requires-in-ReadElementStatus c = (omega arith, sized _ _ _ c.requires.served.fitting c.in-ReadElementStatus.is)
+
+pub whole-requires-in-ModeSense : goal.whole-requires-in-ModeSense
+unfolding meaning
+whole-requires-in-ModeSense c = (omega arith, sized _ _ _ c.requires.served.fitting c.in-ModeSense.is)
+
+pub whole-requires-in-SendVolumeTag : goal.whole-requires-in-SendVolumeTag
+unfolding meaning
+whole-requires-in-SendVolumeTag c = (omega arith, sized _ _ _ c.requires.served.fitting c.in-SendVolumeTag.is)
+
+pub whole-requires-in-RequestVolumeElementAddress : goal.whole-requires-in-RequestVolumeElementAddress
+unfolding meaning
+whole-requires-in-RequestVolumeElementAddress c = (omega arith, sized _ _ _ c.requires.served.fitting c.in-RequestVolumeElementAddress.is)
 
 pub reserve-requires : goal.reserve-requires
 unfolding meaning
-reserve-requires c =
-    let s = c.requires.served in
-    record {
-      head-long = s.suited.ready-to-move.head-length;
-      runs-are = s.suited.ready-to-move.runs-are;
-      elements-long = s.suited.ready-to-move.records;
-      few = s.suited.ready-to-move.few;
-      host-known = s.host-most;
-      block-long = sized _ _ _ s.fitting c.in-Reserve.is;
-    }
+reserve-requires c = let s = c.requires.served.suited.ready-to-move in record { runs-are = s.runs-are; elements-long = s.records; few = s.few }
 
-pub release-requires : goal.release-requires
+pub medium-requires : goal.medium-requires
 unfolding meaning
-release-requires c =
-    let s = c.requires.served in
-    record { head_size_in_bounds = s.suited.ready-to-move.head-length; host_le_hosts = s.host-most; block_len = sized _ _ _ s.fitting c.in-Release.is }
+medium-requires c = c.requires.served.suited.ready-to-move
 
-pub prevent_allow-requires : goal.prevent_allow-requires
+pub medium-requires-in-ExchangeMedium : goal.medium-requires-in-ExchangeMedium
 unfolding meaning
-prevent_allow-requires c =
-    let s = c.requires.served in
-    record { head_size_in_bounds = s.suited.ready-to-move.head-length; le_host = s.host-some; host_le_hosts = s.host-most; block_len = sized _ _ _ s.fitting c.in-PreventAllow.is }
-
-pub move_medium-requires : goal.move_medium-requires
-unfolding meaning
-move_medium-requires c =
-    let s = c.requires.served in
-    record { ready = s.suited.ready-to-move; le_host = s.host-some; host_le_hosts = s.host-most; block_len = sized _ _ _ s.fitting c.in-MoveMedium.is }
-
-pub exchange_medium-requires : goal.exchange_medium-requires
-unfolding meaning
-exchange_medium-requires c =
-    let s = c.requires.served in
-    record { ready = s.suited.ready-to-move; le_host = s.host-some; host_le_hosts = s.host-most; block_len = sized _ _ _ s.fitting c.in-ExchangeMedium.is }
+medium-requires-in-ExchangeMedium c = c.requires.served.suited.ready-to-move
 
 pub read_element_status-requires : goal.read_element_status-requires
 unfolding meaning
-read_element_status-requires c =
-    let s = c.requires.served in
-    s.suited.ready-to-list _ _ s.host-most (sized _ _ _ s.fitting c.in-ReadElementStatus.is)
+read_element_status-requires c = c.requires.served.suited.ready-to-list
 
 pub mode_sense-requires : goal.mode_sense-requires
 unfolding meaning
-mode_sense-requires c =
-    let s = c.requires.served in
-    record {
-      head-long = s.suited.ready-to-move.head-length;
-      host-known = s.host-most;
-      block-long = sized _ _ _ s.fitting c.in-ModeSense.is;
-      answered = answered _ _ _ (rw c.in-ModeSense.is at c.requires.parameters_value);
-    }
-
-pub send_volume_tag-requires : goal.send_volume_tag-requires
-unfolding meaning
-send_volume_tag-requires c =
-    let s = c.requires.served in
-    record { head_size_in_bounds = (s.suited.ready-to-move.head-length, s.host-most); search_len = (s.suited.search-whole, sized _ _ _ s.fitting c.in-SendVolumeTag.is) }
+mode_sense-requires c = rw c.whole-in-ModeSense.ensures (answered _ _ _ (rw c.in-ModeSense.is at c.requires.no_fault))
 
 pub request_volume_element_address-requires : goal.request_volume_element_address-requires
 unfolding meaning
-request_volume_element_address-requires c =
-    let s = c.requires.served in
-    findable _ _ _ _ _ _ s.suited _ _ s.host-most (sized _ _ _ s.fitting c.in-RequestVolumeElementAddress.is)
-
-pub refuse-requires : goal.refuse-requires
-refuse-requires c =
-    let s = c.requires.served in
-    record { head_size_in_bounds = s.suited.ready-to-move.head-length; host_le_hosts = s.host-most }
+request_volume_element_address-requires c = findable _ _ _ _ _ c.requires.served.suited
 
 pub returns-in-TestUnitReady : goal.returns-in-TestUnitReady
 unfolding act meaning
-returns-in-TestUnitReady c =
-    λ rest lends. ends_as _ _ (c.good.ensures _ _ _) (sym (good-fits (lent [] [] bare) _ [] _ []) ∙ acts _ _ c.in-TestUnitReady.is _ _ _ _ _)
+returns-in-TestUnitReady c = ends_as _ _ (c.good.ensures _ _ _) (sym (good-fits (lent [] [] bare) _ [] _ []) ∙ acts _ _ c.in-TestUnitReady.is _ _ _ _ _)
 
 pub returns-in-RequestSense : goal.returns-in-RequestSense
 unfolding act meaning
 returns-in-RequestSense c =
-    λ rest lends. ends_as _ _ (c.request_sense.ensures _ _) (acts _ _ c.in-RequestSense.is _ _ _ _ _)
+    ends_as _ _ (rw c.whole.ensures at c.request_sense.ensures _ _) (acts _ _ c.in-RequestSense.is _ _ _ _ _)
 
 pub returns-in-Reserve : goal.returns-in-Reserve
 unfolding act meaning
 returns-in-Reserve c =
-    λ rest lends. ends_as _ _ (c.reserve.ensures _ _) (sym (reserve-fits _ _ _ _ _) ∙ acts _ _ c.in-Reserve.is _ _ _ _ _)
+    ends_as _ _ (rw c.whole-in-Reserve.ensures at c.reserve.ensures _ _) (sym (reserve-fits _ _ _ _ _) ∙ acts _ _ c.in-Reserve.is _ _ _ _ _)
 
 pub returns-in-Release : goal.returns-in-Release
 unfolding act meaning
 returns-in-Release c =
-    λ rest lends. ends_as _ _ (c.release.ensures _ _) (sym (release-fits _ _ _ _) ∙ acts _ _ c.in-Release.is _ _ _ _ _)
+    ends_as _ _ (rw c.whole-in-Release.ensures at c.release.ensures _ _) (sym (release-fits _ _ _ _) ∙ acts _ _ c.in-Release.is _ _ _ _ _)
 
 pub returns-in-PreventAllow : goal.returns-in-PreventAllow
 unfolding act meaning
 returns-in-PreventAllow c =
-    λ rest lends. ends_as _ _ (c.prevent_allow.ensures _ _ _) (sym (prevent-fits _ _ _ _) ∙ acts _ _ c.in-PreventAllow.is _ _ _ _ _)
+    ends_as _ _ (rw c.whole-in-PreventAllow.ensures at c.prevent_allow.ensures _ _ _) (sym (prevent-fits _ _ _ _) ∙ acts _ _ c.in-PreventAllow.is _ _ _ _ _)
 
 pub returns-in-MoveMedium : goal.returns-in-MoveMedium
-unfolding act meaning
+unfolding act meaning carry_verdict
 returns-in-MoveMedium c =
-    λ rest lends. ends_as _ _ (c.move_medium.ensures _ _ lends.generations-is lends.masks-is) (sym (move-fits _ _ _ _) ∙ acts _ _ c.in-MoveMedium.is _ _ _ _ _)
+    ends_as _ _ (rw c.whole-in-MoveMedium.ensures at c.medium.ensures _ _ refl refl) (sym (move-fits _ _ _ _) ∙ acts _ _ c.in-MoveMedium.is _ _ _ _ _)
 
 pub returns-in-ExchangeMedium : goal.returns-in-ExchangeMedium
-unfolding act meaning
+unfolding act meaning carry_verdict
 returns-in-ExchangeMedium c =
-    λ rest lends. ends_as _ _ (c.exchange_medium.ensures _ _ lends.generations-is lends.masks-is) (sym (exchange-fits _ _ _ _) ∙ acts _ _ c.in-ExchangeMedium.is _ _ _ _ _)
+    ends_as _ _ (rw c.whole-in-ExchangeMedium.ensures at c.medium-in-ExchangeMedium.ensures _ _ refl refl) (sym (exchange-fits _ _ _ _) ∙ acts _ _ c.in-ExchangeMedium.is _ _ _ _ _)
 
 pub returns-in-ReadElementStatus : goal.returns-in-ReadElementStatus
 unfolding act meaning
 returns-in-ReadElementStatus c =
-    λ rest lends. ends_as _ _ (c.read_element_status.ensures _ (record { tags-is = lends.labels.tags-is; blank-is = lends.labels.blank-is })) (acts _ _ c.in-ReadElementStatus.is _ _ _ _ _)
+    ends_as _ _ (rw c.whole-in-ReadElementStatus.ensures at c.read_element_status.ensures _ (record { tags-is = refl; blank-is = refl })) (acts _ _ c.in-ReadElementStatus.is _ _ _ _ _)
 
 pub returns-in-ModeSense : goal.returns-in-ModeSense
 unfolding act meaning
 returns-in-ModeSense c =
-    λ rest lends. ends_as _ _ (c.mode_sense.ensures _ _) (acts _ _ c.in-ModeSense.is _ _ _ _ _)
+    ends_as _ _ (rw c.whole-in-ModeSense.ensures at c.mode_sense.ensures _ _) (acts _ _ c.in-ModeSense.is _ _ _ _ _)
 
 pub returns-in-SendVolumeTag : goal.returns-in-SendVolumeTag
 unfolding act meaning
 returns-in-SendVolumeTag c =
-    λ rest lends. ends_as _ _ (c.send_volume_tag.ensures _ rest _) (sym (tag_fits _ _ _ _ _) ∙ acts _ _ c.in-SendVolumeTag.is _ _ _ _ _)
+    ends_as _ _ (rw c.whole-in-SendVolumeTag.ensures at c.send_volume_tag.ensures _ (rest_of c.args.fixed []) _) (sym (tag_fits _ _ _ _ _) ∙ acts _ _ c.in-SendVolumeTag.is _ _ _ _ _)
 
 pub returns-in-RequestVolumeElementAddress : goal.returns-in-RequestVolumeElementAddress
 unfolding act meaning
 returns-in-RequestVolumeElementAddress c =
-    λ rest lends. ends_as _ _ (c.request_volume_element_address.ensures rest lends.labels) (acts _ _ c.in-RequestVolumeElementAddress.is _ _ _ _ _)
+    ends_as _ _ (rw c.whole-in-RequestVolumeElementAddress.ensures at c.request_volume_element_address.ensures (rest_of c.args.fixed []) (record { tags-is = refl; blank-is = refl })) (acts _ _ c.in-RequestVolumeElementAddress.is _ _ _ _ _)
 
 pub returns-in-Unknown : goal.returns-in-Unknown
 unfolding act meaning reason
 returns-in-Unknown c =
-    λ rest lends. ends_as _ _ (c.refuse.ensures _ _ _) (sym (refused-fits (lent [] [] bare) _ [] _ _) ∙ acts _ _ c.in-Unknown.is _ _ _ _ _)
+    ends_as _ _ (c.refuse.ensures _ _ _) (sym (refused-fits (lent [] [] bare) _ [] _ _) ∙ acts _ _ c.in-Unknown.is _ _ _ _ _)

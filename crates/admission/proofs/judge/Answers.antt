@@ -1,8 +1,7 @@
 -- `admission::judge` meets its contract. Assumes nothing.
-use mathlib.Core.Path.{ap}
-use Rattle.rules.proofs.Ladder.{ladder, no, eq_no}
-use Rattle.admission.specs.declared.Admission.TheVariants.{Faulty}
+use Rattle.rules.proofs.Ladder.{ladder, no}
 use Rattle.admission.specs.Admitting.{admission}
+use Rattle.admission.proofs.Admissions.{faulty, unbarred}
 use Rattle.admission.proofs.judge.Goals as goal
 
 pub returns-then-pending : goal.returns-then-pending
@@ -13,10 +12,12 @@ pub returns-then-held : goal.returns-then-held
 unfolding admission
 returns-then-held c = search ladder depth 10
 
-pub returns-then-at-eq0 : goal.returns-then-at-eq0
+pub returns-in-Some : goal.returns-in-Some
 unfolding admission
-returns-then-at-eq0 c = search ladder depth 10
+returns-in-Some c =
+    no _ _ _ _ _ c.pending.ensures c.if-pending.false (no _ _ _ _ _ c.held.ensures c.if-held.false (faulty _ _ c.fault.ensures _ c.in-Some.is))
 
-pub returns : goal.returns
+pub returns-in-None : goal.returns-in-None
 unfolding admission
-returns c = no _ _ _ _ _ c.pending.ensures c.if-pending.false (no _ _ _ _ _ c.held.ensures c.if-held.false (eq_no _ _ _ _ _ _ c.fault-at.ensures c.if-at-eq0.false (ap Faulty c.fault-at.ensures)))
+returns-in-None c =
+    no _ _ _ _ _ c.pending.ensures c.if-pending.false (no _ _ _ _ _ c.held.ensures c.if-held.false (unbarred _ _ c.fault.ensures c.in-None.is))

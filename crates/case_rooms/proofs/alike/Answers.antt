@@ -1,33 +1,19 @@
--- `case_rooms::alike`: at the loop's head the first i bytes are alike. Assumes nothing.
-use Rattle.case_rooms.proofs.Fronts.{Passed, none, more, parts, ends, short}
-use lib.ListN.{length}
-use native.Mathlib.Omega.{arith}
-use Prim.Native.Nat.{◌-◌}
+-- `case_rooms::alike` meets its contract: it finds the first bytes that differ. Assumes nothing.
+use Rattle.std.proofs.Common.{◌∙◌, refl, rules, tests}
+use Rattle.std.proofs.lemmas.Iterator.{YieldsList-from_slice, YieldsList-from_zip}
+use Rattle.std.proofs.lemmas.Iterator.Search.{position_from_yields_List}
+use Rattle.std.proofs.lemmas.List.Sums.{prefix_len-le-length}
+use Rattle.std.proofs.lemmas.Slice.Zip.{length-zip}
+use Rattle.std.specs.List.{zip}
+use Rattle.case_rooms.proofs.Fronts.{differ, alike_is, found_is}
 use Rattle.case_rooms.proofs.alike.Goals as goal
 
-pub loop-i-init : goal.loop-i-init
-loop-i-init c = none _ _
-
-pub returns-then-i-expected : goal.returns-then-i-expected
-returns-then-i-expected c = short _ _ _ c.loop-i.invariant c.if-i-expected.true
-
-pub bounds-found-i : goal.bounds-found-i
-bounds-found-i c = omega arith
-
-pub bounds-expected-i : goal.bounds-expected-i
-bounds-expected-i c = omega arith
-
-pub returns-then-found-i : goal.returns-then-found-i
-returns-then-found-i c = parts _ _ _ c.loop-i.invariant c.loop-i-test.true c.if-i-expected.false c.if-found-i.true
-
-pub overflow_add-i : goal.overflow_add-i
-overflow_add-i c = omega arith
-
-pub loop-i-smaller : goal.loop-i-smaller
-loop-i-smaller c = omega arith
-
-pub loop-i-preserved : goal.loop-i-preserved
-loop-i-preserved c = more _ _ _ c.loop-i.invariant c.loop-i-test.true c.if-i-expected.false c.if-found-i.false
-
 pub returns : goal.returns
-returns c = ends _ _ _ c.loop-i.invariant c.loop-i-test.false
+returns c =
+    let xs = c.args.found.now in
+    let ys = c.args.expected.now in
+    found_is _ _ _ _
+    (position_from_yields_List differ c.position.new.self _ _ c.position.ensures.ran
+    (YieldsList-from_zip (YieldsList-from_slice xs cc) (YieldsList-from_slice ys cc)) (λ x b q k. search (rules, tests)))
+    (prefix_len-le-length _ (zip xs ys)) (c.unwrap_or.ensures ∙ rw (c.min-both.ensures, length-zip) refl)
+    ∙ alike_is xs ys

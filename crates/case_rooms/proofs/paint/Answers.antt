@@ -4,4 +4,4 @@ use borrow.Author.Rules.{rules}
 use Rattle.case_rooms.proofs.paint.Goals as goal
 
 pub returns : goal.returns
-returns c = painted _ _ _ c.least-start.ensures.value _ _ _ _ c.least.ensures.value c.fill.ensures
+returns c = painted _ _ _ c.min-start.ensures _ _ _ _ c.min.ensures (search rules)

@@ -4,4 +4,4 @@ use borrow.Author.Rules.{rules}
 use Rattle.case_rooms.proofs.part.Goals as goal
 
 pub returns : goal.returns
-returns c = part-least _ _ _ _ _ c.least-start.ensures.value c.least.ensures.value
+returns c = part-least _ _ _ _ _ c.min-start.ensures c.min.ensures

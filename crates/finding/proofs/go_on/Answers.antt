@@ -3,29 +3,23 @@ use Prim.Native.Nat.{ℕ}
 use native.Mathlib.Omega.{arith}
 use mathlib.Core.Path.{refl}
 use lib.ListN.{length-replicate}
-use Rattle.rules.specs.Bytes.{byte}
-use Rattle.rules.specs.Tables.{lent, searching, action, next_address}
+use Rattle.rules.specs.Tables.{lent, searching}
 use Rattle.finding.proofs.Ends.{fresh, goes_on}
 use Rattle.finding.proofs.go_on.Goals as goal
 
 pub mark_found-requires : goal.mark_found-requires
 mark_found-requires c =
     let s = c.requires in
-    fresh _ _ _ _ s.stands s.labelled s.whole s.few
+    fresh _ _ _ s.stands s.labelled s.few
 
 pub passed-next-requires : goal.passed-next-requires
-unfolding next_address
 passed-next-requires c =
     let s = c.requires in
-    record {
-      start_bound = (c.query_of-q.ensures.start_bound, (omega (arith, c.word_at-most.type_inv), omega (arith, c.triple_at-from.ensures, s.near)));
-      each = s.inside;
-    }
+    record { near = rw c.limits_of-limits.ensures s.near; each = s.inside }
 
 pub returns : goal.returns
-unfolding action next_address byte
 returns c = λ rest tags-is listable.
     let s = c.requires in
     goes_on (lent _ _ (searching rest _)) _ _ _ s.runs-are (λ e. omega (arith, e, length-replicate {A = ℕ} 512 0))
     (c.mark_found.ensures _ (record { elements-is = refl; tags-is = tags-is; search_is = refl })) _ _ _ _ c.wipe.ensures c.put_next.ensures
-    (rw (c.query_of-q.ensures.value, c.word_at-most.ensures, c.word_at-room.ensures, c.triple_at-from.ensures) at (c.passed-next.ensures.value _ listable))
+    (rw (c.query_of-q.ensures, c.limits_of-limits.ensures) at (c.passed-next.ensures.value _ listable))

@@ -1,20 +1,14 @@
 -- `form::lower` meets its contract. Assumes nothing.
-use Rattle.rules.specs.Form.{lower}
-use Rattle.rules.proofs.Ladder.{ladder}
+use mathlib.Core.Path.{sym, ◌∙◌}
+use Rattle.form.proofs.Lowest.{lower-second, lower-first, lower-both}
 use Rattle.form.proofs.lower.Goals as goal
 
-pub returns-then-i-eq0 : goal.returns-then-i-eq0
-unfolding lower
-returns-then-i-eq0 c = search ladder depth 10
+pub returns-in-None-default : goal.returns-in-None-default
+returns-in-None-default c = λ m n e f. lower-second _ m n (sym c.in-None-default.is-0 ∙ e) f
 
-pub returns-then-j-eq0 : goal.returns-then-j-eq0
-unfolding lower
-returns-then-j-eq0 c = search ladder depth 10
+pub returns-in_default-None : goal.returns-in_default-None
+returns-in_default-None c = λ m n e f. lower-first _ m n e (sym c.in_default-None.is-1 ∙ f)
 
-pub returns-then-i-j : goal.returns-then-i-j
-unfolding lower
-returns-then-i-j c = search ladder depth 10
-
-pub returns : goal.returns
-unfolding lower
-returns c = search ladder depth 10
+pub returns-in-Some-Some : goal.returns-in-Some-Some
+returns-in-Some-Some c = λ m n e f.
+    let both = lower-both c.in-Some-Some.i c.in-Some-Some.j m n (sym c.in-Some-Some.is-0 ∙ e) (sym c.in-Some-Some.is-1 ∙ f) in cc

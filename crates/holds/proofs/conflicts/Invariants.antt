@@ -1,20 +1,12 @@
--- `holds::conflicts`: the descriptors before k name no taken element, nor do the places before p. Assumes nothing.
-use Prim.Native.Nat.{◌≤◌, ◌-◌}
-use mathlib.Core.Path.{◌≡◌}
-use mathlib.Core.Bool.{false}
+-- `holds::conflicts`: the descriptors before this one name no taken element, nor do the places before this one. Assumes nothing.
+use Rattle.std.proofs.Common.{◌≡◌, false, get_or}
 use Rattle.rules.proofs.Loops.{Failed}
 use Rattle.rules.specs.Holds.{taken}
-use Rattle.holds.specs.Judged.{taken_in}
+use Rattle.holds.specs.Judged.{nowhere, taken_of}
 use Rattle.holds.proofs.conflicts.Given as goal
 
-abbrev pub invariant-loop-p : goal.invariant-loop-p
-invariant-loop-p l = (l.initial.p ≤ l.p) × (l.bad ≡ false) × Failed (taken l.elements l.host l.id) l.initial.p l.p
-
-abbrev pub decreases-loop-p : goal.decreases-loop-p
-decreases-loop-p l = l.end - l.p
-
 abbrev pub invariant-judged : goal.invariant-judged
-invariant-judged l = (l.bad ≡ false) × Failed (taken_in l.elements l.host l.id l.firsts l.ends) 0 l.k
+invariant-judged l = (l.conflict ≡ false) × Failed (taken_of l.elements l.claim.host l.claim.id l.spans) 0 l.span-index
 
-abbrev pub decreases-judged : goal.decreases-judged
-decreases-judged l = l.n - l.k
+abbrev pub invariant-loop-place : goal.invariant-loop-place
+invariant-loop-place l = (l.conflict ≡ false) × Failed (taken l.elements l.claim.host l.claim.id) (get_or l.spans l.span-index nowhere).first l.place

@@ -1,11 +1,7 @@
--- `holds::grant` meets its contract. Assumes nothing.
-use Prim.Native.Nat.{◌≤◌, ◌-◌}
+-- `holds::grant`: at the loop's head the elements before this place are settled. Assumes nothing.
 use Rattle.rules.proofs.Loops.{Turned}
 use Rattle.holds.specs.Judged.{settled_at}
 use Rattle.holds.proofs.grant.Given as goal
 
-abbrev pub invariant-loop-p : goal.invariant-loop-p
-invariant-loop-p l = (l.p ≤ l.n) × Turned (settled_at l.marks l.host l.id) 0 l.initial.elements l.elements l.p
-
-abbrev pub decreases-loop-p : goal.decreases-loop-p
-decreases-loop-p l = l.n - l.p
+abbrev pub invariant-loop-place : goal.invariant-loop-place
+invariant-loop-place l = Turned (settled_at l.marks l.claim.host l.claim.id) 0 l.initial.elements l.elements l.place

@@ -1,12 +1,8 @@
 -- `holds::judge_elements`: at the loop's head the first k descriptors had no fault, what they name is marked, and where it begins and ends is
 -- kept. Assumes nothing.
-use Prim.Native.Nat.{◌-◌}
 use Rattle.tables.specs.Ranges.{laid}
 use Rattle.holds.proofs.Turns.{Turning}
 use Rattle.holds.proofs.judge_elements.Given as goal
 
 abbrev pub invariant-loop-k : goal.invariant-loop-k
-invariant-loop-k l = Turning (laid l.runs) l.elements l.host l.id l.list l.n l.marks l.firsts l.ends l.k
-
-abbrev pub decreases-loop-k : goal.decreases-loop-k
-decreases-loop-k l = l.n - l.k
+invariant-loop-k l = Turning (laid l.runs) l.elements l.claim.host l.claim.id l.list l.n l.marks l.spans l.k

@@ -12,9 +12,9 @@ returns-then-unit-host c rest buffer =
     (unit-own _ _ _ c.unit-unit.ensures c.if-unit-host.true)
     (both _ _ _ _ rest c.hold_unit.ensures c.free.ensures)
 
-pub returns : goal.returns
+pub returns-else-unit-host : goal.returns-else-unit-host
 unfolding changes change in_head in_elements
-returns c rest buffer =
+returns-else-unit-host c rest buffer =
     good-with _ _ _ _ rest buffer _ (c.good-reply.ensures _ rest buffer) (Free (Every _) ∷ []) _ _ _
     (unit-not _ _ _ c.unit-unit.ensures c.if-unit-host.false)
     (both _ _ _ _ rest refl c.free.ensures)

@@ -11,10 +11,10 @@ returns-then-block-eq0 c rest buffer =
 
 pub reserve_elements-requires : goal.reserve_elements-requires
 reserve_elements-requires c =
-    record { head_size_in_bounds = c.requires.head-long; host_le_hosts = c.requires.host-known; laid_out = lays-out _ _ _ _ _ c.requires }
+    lays-out _ _ _ c.requires
 
 pub returns : goal.returns
 unfolding byte
 returns c rest buffer =
     ends_as _ buffer (c.reserve_elements.ensures rest buffer)
-    (reserves-elements _ _ _ _ c.if-block-eq0.false _ (same-roster _ _ _ _ _ c.requires))
+    (reserves-elements _ _ _ _ c.if-block-eq0.false _ (same-roster _ _ _ c.requires))

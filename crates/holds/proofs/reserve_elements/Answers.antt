@@ -5,24 +5,24 @@ use Rattle.rules.proofs.Rungs.{ends_as}
 use Rattle.rules.specs.Tables.{places}
 use Rattle.lists.proofs.Marks.{marks_begin}
 use Rattle.holds.specs.Judged.{meaning}
+use Rattle.holds.proofs.Ends.{good-with, grant-ends}
 use Rattle.holds.proofs.reserve_elements.Goals as goal
 
-pub judge_elements-ruling-requires : goal.judge_elements-ruling-requires
-judge_elements-ruling-requires c =
-    record { laid_out = c.requires.laid_out; marks = marks_begin _ _ }
+pub judge_elements-requires-clause-marks : goal.judge_elements-requires-clause-marks
+judge_elements-requires-clause-marks c = marks_begin _ _
 
-pub carry_out-requires : goal.carry_out-requires
+pub grant-requires : goal.grant-requires
 unfolding places
-carry_out-requires c =
-    let laid_out = c.requires.laid_out in
-    record {
-      head-long = c.requires.head_size_in_bounds;
-      host-known = c.requires.host_le_hosts;
-      records = omega (arith, laid_out.elements-long);
-      few = omega (arith, laid_out.elements-long, laid_out.few);
-    }
+grant-requires c = omega (arith, c.requires.elements-long, c.requires.few)
 
-pub returns : goal.returns
-returns c rest buffer =
-    let judged = c.judge_elements-ruling.ensures in
-    ends_as _ buffer (c.carry_out.ensures _ _ rest buffer judged.grantable) (ap (meaning _ _ _ _) judged.value)
+pub returns-in-Ok : goal.returns-in-Ok
+unfolding meaning places
+returns-in-Ok c rest buffer =
+    let told = c.in-Ok.ensures in
+    good-with _ _ _ _ rest buffer _ (c.good.ensures _ rest buffer) _ _ _ _ (ap (meaning _ _ _ _) told.value)
+    (grant-ends _ _ _ _ _ rest _ _ _ told.grantable (omega (arith, c.requires.elements-long)) (omega (arith, c.requires.elements-long, c.requires.few)) c.grant.ensures)
+
+pub returns-in-Err : goal.returns-in-Err
+unfolding meaning
+returns-in-Err c rest buffer =
+    ends_as _ buffer (c.refused.ensures _ rest buffer) (ap (meaning _ _ _ _) c.in-Err.ensures.value)

@@ -8,35 +8,32 @@ use Rattle.listing.proofs.Counted.{within-later}
 use Rattle.listing.proofs.Stages.{counting-begins, counting-here, counting-on, counting-ends}
 use Rattle.listing.proofs.count.Goals as goal
 
-pub loop-k-init : goal.loop-k-init
-loop-k-init c = counting-begins _ _ _ _ c.requires.start_bound.1 c.requires.within
-
-pub bounds-rs-k : goal.bounds-rs-k
-bounds-rs-k c = c.loop-k-test.true
+pub loop-r-init : goal.loop-r-init
+loop-r-init c = counting-begins _ _ _ _ c.requires.each c.requires.within
 
 pub choose-requires : goal.choose-requires
 choose-requires c =
-    let l = c.loop-k in
-    (c.requires.start_bound.0, omega (arith, l.invariant.within.place))
+    let l = c.loop-r in
+    omega (arith, l.invariant.within.place)
 
 pub step-x-requires : goal.step-x-requires
 step-x-requires c =
-    let l = c.loop-k in
+    let l = c.loop-r in
     let n : length c.args.rs ≡ 4 = search rules in record {
-      start_bound = (c.requires.start_bound.0, counting-here _ _ _ _ _ _ _ l.invariant (omega arith));
+      inside = counting-here _ _ _ _ _ _ _ l.invariant (omega arith);
       within = (
         within-later _ _ _ (omega arith) l.invariant.within,
         rw c.choose.ensures (part_small _ c.args.q _ _ (counting-here _ _ _ _ _ _ _ l.invariant (omega arith)) l.invariant.within.sum),
       );
     }
 
-pub loop-k-preserved : goal.loop-k-preserved
-loop-k-preserved c =
-    let l = c.loop-k in
+pub loop-r-preserved : goal.loop-r-preserved
+loop-r-preserved c =
+    let l = c.loop-r in
     let n : length c.args.rs ≡ 4 = search rules in
-    counting-on _ _ _ _ _ _ _ l.invariant (omega arith) c.requires.start_bound.0 _ ((rw c.choose.ensures at c.step-x.ensures) ∙ step_is _ _ _ _)
+    counting-on _ _ _ _ _ _ _ l.invariant (omega arith) (omega arith) _ ((rw c.choose.ensures at c.step-x.ensures) ∙ step_is _ _ _ _)
 
 pub returns : goal.returns
 returns c =
     let n : length c.args.rs ≡ 4 = search rules in
-    counting-ends _ _ _ _ _ _ c.loop-k.invariant (omega arith)
+    counting-ends _ _ _ _ _ _ c.loop-r.invariant (omega arith)

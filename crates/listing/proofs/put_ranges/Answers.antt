@@ -10,55 +10,51 @@ use Rattle.listing.proofs.put_ranges.Goals as goal
 
 pub returns-then-s-eq0 : goal.returns-then-s-eq0
 returns-then-s-eq0 c =
-    write-nothing _ _ _ c.requires.labelled _ _ _ c.if-s-eq0.true
+    write-nothing _ _ _ c.args.stock.labelled _ _ _ c.if-s-eq0.true
 
-pub loop-k-init : goal.loop-k-init
-loop-k-init c =
-    writing_begins _ _ _ _ _ _ c.requires.rs_in_bounds c.requires.rs_in_bounds_2 c.requires.start_bound.1.0 c.requires.start_bound.1.1
-
-pub bounds-rs-k : goal.bounds-rs-k
-bounds-rs-k c = c.loop-k-test.true
+pub loop-r-init : goal.loop-r-init
+loop-r-init c =
+    writing_begins _ _ _ _ _ _ c.requires.rs_in_bounds c.requires.rs_in_bounds_2 c.requires.each.0 c.requires.each.1
 
 pub choose-p-requires : goal.choose-p-requires
 choose-p-requires c =
-    let l = c.loop-k in
-    (c.requires.start_bound.0, omega (arith, l.invariant.within.place))
+    let l = c.loop-r in
+    omega (arith, l.invariant.within.place)
 
 pub put_range-requires : goal.put_range-requires
 put_range-requires c =
-    let l = c.loop-k in
+    let l = c.loop-r in
     let n : length c.args.rs ≡ 4 = search rules in
-    let ok = c.requires.labelled in record {
+    let ok = c.args.stock.labelled in record {
       r_in_bounds = writing-room _ _ _ ok _ _ _ _ _ _ _ l.invariant (omega arith);
-      start_bound = (c.requires.start_bound.0, (writing-inside _ _ _ ok _ _ _ _ _ _ _ l.invariant (omega arith), within-later _ _ _ (omega arith) l.invariant.within));
+      inside = (writing-inside _ _ _ ok _ _ _ _ _ _ _ l.invariant (omega arith), within-later _ _ _ (omega arith) l.invariant.within);
       p_value = c.choose-p.ensures;
       count_in_bounds = writing-stands _ _ _ ok _ _ _ _ _ _ _ l.invariant (omega arith);
-      labelled = ok;
     }
 
 pub step-x-requires : goal.step-x-requires
 step-x-requires c =
-    let l = c.loop-k in
+    let l = c.loop-r in
     let n : length c.args.rs ≡ 4 = search rules in
-    let ok = c.requires.labelled in record {
-      start_bound = (c.requires.start_bound.0, writing-inside _ _ _ ok _ _ _ _ _ _ _ l.invariant (omega arith));
+    let ok = c.args.stock.labelled in record {
+      inside = writing-inside _ _ _ ok _ _ _ _ _ _ _ l.invariant (omega arith);
       within = (
         within-later _ _ _ (omega arith) l.invariant.within,
         rw c.choose-p.ensures (part_small _ c.args.q _ _ (writing-inside _ _ _ ok _ _ _ _ _ _ _ l.invariant (omega arith)) l.invariant.within.sum),
       );
     }
 
-pub loop-k-preserved : goal.loop-k-preserved
-loop-k-preserved c =
-    let l = c.loop-k in
+pub loop-r-preserved : goal.loop-r-preserved
+loop-r-preserved c =
+    let l = c.loop-r in
     let n : length c.args.rs ≡ 4 = search rules in
-    writing-on _ _ _ c.requires.labelled _ _ _ _ _ _ _ l.invariant (omega arith) c.requires.start_bound.0 _ c.put_range.ensures _
+    writing-on _ _ _ c.args.stock.labelled _ _ _ _ _ _ _ l.invariant (omega arith) (omega arith) _ c.put_range.ensures _
     ((rw c.choose-p.ensures at c.step-x.ensures) ∙ step_is _ _ _ _)
 
 pub shape_of-answer : goal.shape_of-answer
-shape_of-answer c = c.loop-k.invariant.long
+shape_of-answer c = c.loop-r.invariant.long
 
 pub returns : goal.returns
 returns c =
     let n : length c.args.rs ≡ 4 = search rules in
-    writing-ends _ _ _ c.requires.labelled _ _ _ _ _ _ c.loop-k.invariant (omega arith)
+    writing-ends _ _ _ c.args.stock.labelled _ _ _ _ _ _ c.loop-r.invariant (omega arith)

@@ -10,32 +10,28 @@ use Rattle.listing.proofs.shortened.Goals as goal
 
 pub returns-then-answer-n : goal.returns-then-answer-n
 returns-then-answer-n c =
-    let short : c.cut-n.result ≡ length (cut c.args.allocation (header_at c.args.action c.args.x)) =
-    c.cut-n.ensures ∙ sym (header-cut-length c.args.allocation c.args.action c.args.x) in
-    rw c.numbered.ensures (answers-refused _ _ (rw (← short) c.if-answer-n.true))
+    let short : c.min-n.result ≡ length (cut c.args.allocation (header_at c.args.action c.args.x)) =
+    c.min-n.ensures ∙ sym (header-cut-length c.args.allocation c.args.action c.args.x) in
+    answers-refused _ _ (rw (← short) c.if-answer-n.true)
 
 pub slice_bounds-h-end : goal.slice_bounds-h-end
 slice_bounds-h-end c =
-    omega (arith, c.cut-n.ensures, c.header.auto.d)
+    omega (arith, c.min-n.ensures, c.header.auto.d)
 
 pub slice_bounds-copy-end : goal.slice_bounds-copy-end
-slice_bounds-copy-end c = sym (length-take-le c.cut-n.result c.header.new.d (omega (arith, c.cut-n.ensures, c.header.auto.d)))
+slice_bounds-copy-end c = sym (length-take-le c.min-n.result c.header.new.d (omega (arith, c.min-n.ensures, c.header.auto.d)))
 
 pub copy-requires : goal.copy-requires
 copy-requires c =
-    let part : length (take c.cut-n.result c.header.new.d) ≡ c.cut-n.result = length-take-le c.cut-n.result c.header.new.d (omega (arith, c.cut-n.ensures, c.header.auto.d)) in
+    let part : length (take c.min-n.result c.header.new.d) ≡ c.min-n.result = length-take-le c.min-n.result c.header.new.d (omega (arith, c.min-n.ensures, c.header.auto.d)) in
     rw part c.if-answer-n.false
-
-pub overflow_cast-n : goal.overflow_cast-n
-overflow_cast-n c = omega (arith, c.cut-n.ensures)
 
 pub returns : goal.returns
 unfolding cut
 returns c =
-    let short : c.cut-n.result ≡ length (cut c.args.allocation (header_at c.args.action c.args.x)) =
-    c.cut-n.ensures ∙ sym (header-cut-length c.args.allocation c.args.action c.args.x) in
-    let first : take c.cut-n.result (header_at c.args.action c.args.x) ≡ cut c.args.allocation (header_at c.args.action c.args.x) =
-    rw c.cut-n.ensures (header-cut c.args.allocation c.args.action c.args.x) in
+    let short : c.min-n.result ≡ length (cut c.args.allocation (header_at c.args.action c.args.x)) =
+    c.min-n.ensures ∙ sym (header-cut-length c.args.allocation c.args.action c.args.x) in
+    let first : take c.min-n.result (header_at c.args.action c.args.x) ≡ cut c.args.allocation (header_at c.args.action c.args.x) =
+    rw c.min-n.ensures (header-cut c.args.allocation c.args.action c.args.x) in
     let h : c.header.new.d ≡ header_at c.args.action c.args.x = c.header.ensures ∙ put_whole _ _ (header-length _ _ _ _) in
-    rw c.told.ensures
-    (answers-told _ _ _ _ (c.copy.ensures ∙ rw (h, first)) short c.if-answer-n.false)
+    answers-told _ _ _ _ (c.copy.ensures ∙ rw (h, first)) short c.if-answer-n.false

@@ -1,36 +1,27 @@
 -- `log_line::decode` meets its contract. Assumes nothing.
-use borrow.Author.Rules.{rules}
-use mathlib.Core.Path.{refl}
-use Rattle.log_line.proofs.Digits.{starts, ended, found, no-high, alone, no-low, goes_on}
+use native.Mathlib.Omega.{arith}
+use mathlib.Core.Path.{sym}
+use borrow.Author.Tests.{ltb-false}
+use Rattle.log_line.proofs.Hexed.{ended, no-high, last, no-low, goes_on}
 use Rattle.log_line.proofs.decode.Goals as goal
-
-pub loop-n-init : goal.loop-n-init
-loop-n-init c = (starts _ _ _, refl, search rules)
-
-pub returns-then-b-mark : goal.returns-then-b-mark
-returns-then-b-mark c =
-    found _ c.requires.bound.0 _ _ _ _ c.loop-n.invariant.0 (search rules) c.if-b-mark.true
 
 pub returns-then-high-gt15 : goal.returns-then-high-gt15
 returns-then-high-gt15 c =
-    no-high _ c.requires.bound.0 _ _ _ _ c.loop-n.invariant.0 (search rules) _ c.value_of-high.ensures c.if-high-gt15.true c.if-b-mark.false
+    no-high _ c.requires.0 _ _ _ _ c.loop-n.invariant (omega arith) _ c.value_of-high.ensures c.if-high-gt15.true _ c.then_some.ensures
 
 pub returns-then-low-gt15 : goal.returns-then-low-gt15
 returns-then-low-gt15 c =
-    no-low _ c.requires.bound.0 _ _ _ _ c.loop-n.invariant.0 (search rules) _ c.value_of-high.ensures c.if-high-gt15.false (search rules) _ c.value_of-low.ensures c.if-low-gt15.true
+    no-low _ c.requires.0 _ _ _ _ c.loop-n.invariant (omega arith) _ c.value_of-high.ensures c.if-high-gt15.false (omega arith) _ c.value_of-low.ensures c.if-low-gt15.true
 
 pub loop-n-preserved : goal.loop-n-preserved
 loop-n-preserved c =
-    (goes_on _ c.requires.bound.0 _ _ _ _ c.loop-n.invariant.0 (search rules) _ c.value_of-high.ensures c.if-high-gt15.false (search rules) _ c.value_of-low.ensures c.if-low-gt15.false (search rules) _ (search rules), search rules, search rules)
+    goes_on _ c.requires.0 _ _ _ _ c.loop-n.invariant (omega arith) _ c.value_of-high.ensures c.if-high-gt15.false (omega arith) _ c.value_of-low.ensures c.if-low-gt15.false (omega arith) _ (omega arith)
 
-pub returns-then-end-text : goal.returns-then-end-text
-returns-then-end-text c =
-    ended _ c.requires.bound.0 _ _ _ _ c.loop-n.invariant.0 c.if-end-text.true
-
-pub returns-then-text-end : goal.returns-then-text-end
-returns-then-text-end c =
-    alone _ c.requires.bound.0 _ _ _ _ c.loop-n.invariant.0 (search rules) (search rules) c.if-text-end.true
+pub returns-in_err-b : goal.returns-in_err-b
+returns-in_err-b c =
+    rw c.from_residual.ensures (ended _ c.requires.0 _ _ _ _ c.loop-n.invariant (let e = ltb-false _ _ (sym c.in_err-b.ensures.lookup.0) in omega arith))
 
 pub returns : goal.returns
 returns c =
-    found _ c.requires.bound.0 _ _ _ _ c.loop-n.invariant.0 (search rules) c.if-text-end.false
+    let found = c.in_ok-b.ensures.lookup.3 in
+    last _ c.requires.0 _ _ _ _ c.loop-n.invariant (omega (arith, found.0)) _ (omega arith) (omega (arith, found.0)) _ (found.1 0) _ c.then_some-2.ensures

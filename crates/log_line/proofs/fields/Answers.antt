@@ -1,25 +1,63 @@
 -- `log_line::fields` meets its contract. Assumes nothing.
 use native.Mathlib.Omega.{arith}
-use mathlib.Core.Path.{sym, ◌∙◌}
-use Rattle.rules.proofs.Replaying.{first-inside}
-use Rattle.rules.specs.Log.{LINE-FEED}
-use Rattle.log_line.proofs.Ways.{other-means, other-within, within-from, no_number, number-inside, with_number}
+use Prim.Native.Nat.{◌+◌}
+use Rattle.log_line.proofs.Text.{tail}
+use Rattle.log_line.proofs.Ways.{no_number, no-host, host-there, behind-host, held-behind}
+use Rattle.log_line.proofs.Pairs.{part-fits, tab-marks, feed-marks, no-command, no-parameters, both-fields, both-held}
 use Rattle.log_line.proofs.fields.Goals as goal
 
-pub returns-then-value-eq0 : goal.returns-then-value-eq0
-returns-then-value-eq0 c =
-    record { list_after = other-means _ _ _ (no_number _ (sym c.number-first.ensures.value-is ∙ c.if-value-eq0.true)); within = other-within _ _ _ _ }
+pub returns-in_err-first-clause-list_after : goal.returns-in_err-first-clause-list_after
+returns-in_err-first-clause-list_after c = rw c.from_residual.ensures (no_number _ c.in_err-first.ensures)
 
-pub overflow_add-next : goal.overflow_add-next
-overflow_add-next c =
-    omega (arith, number-inside _ _ _ c.number-first.ensures c.if-value-eq0.false, first-inside LINE-FEED c.args.text.now)
+pub returns-in_err-host-clause-list_after : goal.returns-in_err-host-clause-list_after
+returns-in_err-host-clause-list_after c =
+    let t = c.args.text.now in
+    let at = c.in_ok-first.first.end + 1 in
+    rw c.from_residual-in_err-host.ensures (no-host _ c.in_ok-first.first c.in_ok-first.ensures _ (tail t at) c.in_err-host.ensures)
 
-pub after_number-requires : goal.after_number-requires
-after_number-requires c = record { tabled = c.requires.tabled; room = record { started = omega (arith, number-inside _ _ _ c.number-first.ensures c.if-value-eq0.false, first-inside LINE-FEED c.args.text.now); for-block = c.requires.room.for-block; for-list = c.requires.room.for-list } }
+pub slice_bounds-decode-count : goal.slice_bounds-decode-count
+slice_bounds-decode-count c =
+    let t = c.args.text.now in
+    let at = c.in_ok-first.first.end + 1 in
+    host-there _ c.in_ok-first.first c.in_ok-first.ensures _ (tail t at) _ c.in_ok-host.ensures
 
-pub returns : goal.returns
-returns c =
-    record {
-      list_after = c.after_number.ensures.list_after ∙ with_number _ _ _ c.number-first.ensures c.if-value-eq0.false;
-      within = within-from _ 0 _ _ _ _ _ (omega arith) (number-inside _ _ _ c.number-first.ensures c.if-value-eq0.false) c.after_number.ensures.within;
-    }
+pub slice_bounds-decode-start : goal.slice_bounds-decode-start
+slice_bounds-decode-start c =
+    let t = c.args.text.now in
+    let at = c.in_ok-first.first.end + 1 in
+    host-there _ c.in_ok-first.first c.in_ok-first.ensures _ (tail t at) _ c.in_ok-host.ensures
+
+pub decode-requires : goal.decode-requires
+decode-requires c = (tab-marks, part-fits c.args.text.now (c.in_ok-first.first.end + 1 + 2) _ c.requires.for-block)
+
+pub returns-in_err-command-clause-list_after : goal.returns-in_err-command-clause-list_after
+returns-in_err-command-clause-list_after c =
+    let t = c.args.text.now in
+    let at = c.in_ok-first.first.end + 1 in
+    rw c.from_residual-in_err-command.ensures
+    (behind-host _ c.in_ok-first.first c.in_ok-first.ensures _ (tail t at) _ c.in_ok-host.ensures _ (no-command t (at + 2) _ (tail t (at + 2)) c.in_err-command.ensures _ _))
+
+pub decode-requires-2 : goal.decode-requires-2
+decode-requires-2 c = (feed-marks, part-fits c.args.text.now (c.in_ok-first.first.end + 1 + 2 + c.in_ok-command.command + 1) _ c.requires.for-list)
+
+pub returns-in_err-parameters-clause-list_after : goal.returns-in_err-parameters-clause-list_after
+returns-in_err-parameters-clause-list_after c =
+    let t = c.args.text.now in
+    let at = c.in_ok-first.first.end + 1 in
+    rw c.from_residual-in_err-parameters.ensures
+    (behind-host _ c.in_ok-first.first c.in_ok-first.ensures _ (tail t at) _ c.in_ok-host.ensures _
+    (no-parameters t (at + 2) _ (tail t (at + 2)) _ _ c.in_ok-command.ensures _ (tail t (at + 2 + c.in_ok-command.command + 1)) c.in_err-parameters.ensures _ _))
+
+pub returns-clause-list_after : goal.returns-clause-list_after
+returns-clause-list_after c =
+    let t = c.args.text.now in
+    let at = c.in_ok-first.first.end + 1 in
+    behind-host _ c.in_ok-first.first c.in_ok-first.ensures _ (tail t at) _ c.in_ok-host.ensures _
+    (both-fields t (at + 2) _ (tail t (at + 2)) _ _ c.in_ok-command.ensures _ (tail t (at + 2 + c.in_ok-command.command + 1)) _ _ c.in_ok-parameters.ensures _ _)
+
+pub returns-clause-within : goal.returns-clause-within
+returns-clause-within c =
+    let t = c.args.text.now in
+    let at = c.in_ok-first.first.end + 1 in
+    held-behind _ c.in_ok-first.first c.in_ok-first.ensures _ (tail t at) _ c.in_ok-host.ensures _ _ _ _ _
+    (both-held t (at + 2) _ (tail t (at + 2)) _ _ c.in_ok-command.ensures _ (tail t (at + 2 + c.in_ok-command.command + 1)) _ _ c.in_ok-parameters.ensures (omega arith) (omega arith))

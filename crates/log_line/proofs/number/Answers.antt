@@ -1,33 +1,34 @@
 -- `log_line::number` meets its contract. Assumes nothing.
-use borrow.Author.Rules.{rules}
-use Rattle.log_line.proofs.Numbers.{none, no_text, zero-first, starts, ended, found, no_digit, too_large, goes_on}
+use mathlib.Core.Path.{sym, ◌∙◌}
+use native.Mathlib.Omega.{arith}
+use Rattle.log_line.proofs.Numbers.{zero-first, starts, ended, found, zero, no_digit, too_large, goes_on}
 use Rattle.log_line.proofs.number.Goals as goal
+use Rattle.log_line.proofs.number.Goals.{then-b-ne-TAB-via-then-b-ne-TAB, then-b-ne-TAB-via-else-b-ne-TAB+then-value-eq0}
 
-pub returns-then-text-eq0 : goal.returns-then-text-eq0
-returns-then-text-eq0 c = none _ _ _ c.no_number.ensures (no_text _ c.if-text-eq0.true)
+pub returns-then-starts_with : goal.returns-then-starts_with
+returns-then-starts_with c = zero-first _ (sym c.starts_with.ensures.value ∙ c.if-starts_with.true)
 
-pub returns-then-text-eq48 : goal.returns-then-text-eq48
-returns-then-text-eq48 c = none _ _ _ c.no_number-then-text-eq48.ensures (zero-first _ c.if-text-eq48.true)
-
-pub loop-i-init : goal.loop-i-init
-loop-i-init c = starts _ c.if-text-eq0.false c.if-text-eq48.false
+pub loop-end-init : goal.loop-end-init
+loop-end-init c = starts _ (sym c.starts_with.ensures.value ∙ c.if-starts_with.false)
 
 pub returns-then-b-ne-TAB : goal.returns-then-b-ne-TAB
 returns-then-b-ne-TAB c =
-    none _ _ _ c.no_number-then-b-ne-TAB.ensures (no_digit _ _ _ c.loop-i.invariant c.loop-i-test.true _ c.value_of-d.ensures c.if-d-gt9.true c.if-b-ne-TAB.true)
+    elim c.then-b-ne-TAB.branch [
+      | then-b-ne-TAB-via-then-b-ne-TAB w ↦ no_digit _ _ _ c.loop-end.invariant c.loop-end-test.true _ c.value_of-d.ensures c.if-d-gt9.true w.if-b-ne-TAB.true
+      | then-b-ne-TAB-via-else-b-ne-TAB+then-value-eq0 w ↦ zero _ _ _ c.loop-end.invariant c.loop-end-test.true w.if-b-ne-TAB.false w.if-value-eq0.true
+    ]
 
 pub returns-then-d-gt9 : goal.returns-then-d-gt9
 returns-then-d-gt9 c =
-    found _ _ _ c.loop-i.invariant c.loop-i-test.true c.if-b-ne-TAB.false
+    found _ _ _ c.loop-end.invariant c.loop-end-test.true c.if-b-ne-TAB.false c.if-value-eq0.false
 
-pub returns-then-n-gt-LARGEST : goal.returns-then-n-gt-LARGEST
-returns-then-n-gt-LARGEST c =
-    none _ _ _ c.no_number-then-n-gt-LARGEST.ensures (too_large _ _ _ c.loop-i.invariant c.loop-i-test.true _ c.value_of-d.ensures c.if-d-gt9.false c.if-n-gt-LARGEST.true)
+pub returns-then-value-gt-LARGEST : goal.returns-then-value-gt-LARGEST
+returns-then-value-gt-LARGEST c =
+    too_large _ _ _ c.loop-end.invariant c.loop-end-test.true _ c.value_of-d.ensures c.if-d-gt9.false (omega (arith, c.from.ensures, c.if-value-gt-LARGEST.true))
 
-pub loop-i-preserved : goal.loop-i-preserved
-loop-i-preserved c =
-    goes_on _ _ _ c.loop-i.invariant c.loop-i-test.true _ c.value_of-d.ensures c.if-d-gt9.false c.if-n-gt-LARGEST.false
+pub loop-end-preserved : goal.loop-end-preserved
+loop-end-preserved c =
+    rw c.from.ensures (goes_on _ _ _ c.loop-end.invariant c.loop-end-test.true _ c.value_of-d.ensures c.if-d-gt9.false (omega (arith, c.from.ensures, c.if-value-gt-LARGEST.false)))
 
 pub returns : goal.returns
-returns c =
-    none _ _ _ c.no_number-2.ensures (ended _ _ _ c.loop-i.invariant (search rules))
+returns c = ended _ _ _ c.loop-end.invariant c.loop-end-test.false

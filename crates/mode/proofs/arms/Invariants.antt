@@ -1,12 +1,8 @@
 -- `mode::arms` meets its contract. Assumes nothing.
 use mathlib.Core.Path.{◌≡◌}
-use Prim.Native.Nat.{◌-◌, ◌≤◌}
 use Rattle.rules.specs.Bytes.{put}
 use Rattle.rules.specs.Mode.{members}
 use Rattle.mode.proofs.arms.Given as goal
 
 abbrev pub invariant-loop-i : goal.invariant-loop-i
-invariant-loop-i l = (l.d ≡ put l.initial.d l.at (members l.i 0)) × (l.i ≤ l.n)
-
-abbrev pub decreases-loop-i : goal.decreases-loop-i
-decreases-loop-i l = l.n - l.i
+invariant-loop-i l = l.d ≡ put l.initial.d l.at (members l.i 0)

@@ -8,6 +8,5 @@ use Rattle.mode.proofs.capabilities.Goals as goal
 pub returns : goal.returns
 unfolding paged capabilities kinds
 returns c =
-    let two = put_then _ _ _ _ _ _ _ c.put_two.ensures c.put_two-2.ensures (omega arith) in
-    let three = put_then _ _ _ _ _ _ _ two c.kinds.ensures (omega arith) in
-    put_then _ _ _ _ _ _ _ three c.kinds-2.ensures (omega arith)
+    let two = put_then _ _ _ _ _ _ _ c.put.ensures c.kinds.ensures (omega arith) in
+    put_then _ _ _ _ _ _ _ two c.kinds-2.ensures (omega arith)

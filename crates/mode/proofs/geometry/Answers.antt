@@ -9,4 +9,4 @@ pub returns : goal.returns
 unfolding paged
 returns c =
     let n = c.args.n in
-    rw (members-length n 0) (put_then _ _ _ _ _ _ _ c.put_two.ensures c.arms.ensures (omega arith))
+    rw (members-length n 0) (put_then _ _ _ _ _ _ _ c.put.ensures c.arms.ensures (omega arith))

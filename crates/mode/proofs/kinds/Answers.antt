@@ -1,12 +1,7 @@
 -- `mode::kinds` meets its contract. Assumes nothing.
-use native.Mathlib.Omega.{arith}
-use Rattle.rules.proofs.Writes.{put_then}
 use Rattle.mode.specs.Judged.{kinds}
 use Rattle.mode.proofs.kinds.Goals as goal
 
 pub returns : goal.returns
 unfolding kinds
-returns c =
-    let two = put_then _ _ _ _ _ _ _ c.put_two.ensures c.put_two-2.ensures (omega arith) in
-    let three = put_then _ _ _ _ _ _ _ two c.put_two-3.ensures (omega arith) in
-    put_then _ _ _ _ _ _ _ three c.put_two-4.ensures (omega arith)
+returns c = c.put.ensures

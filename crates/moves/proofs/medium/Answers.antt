@@ -1,17 +1,26 @@
 -- `moves::medium` meets its contract. Assumes nothing.
+use mathlib.Core.Path.{refl}
+use Rattle.rules.proofs.Rungs.{ends_as}
+use Rattle.moves.specs.Judged.{meaning}
 use Rattle.moves.proofs.Carried.{records-are, judged-is, judged-able}
 use Rattle.moves.proofs.medium.Goals as goal
 
-pub judge-ruling-requires : goal.judge-ruling-requires
-judge-ruling-requires c =
-    record { head_size_in_bounds = c.requires.ready.head-length; runs_len = records-are _ _ _ c.requires.ready; block_len = c.requires.block_len }
+pub judge-requires : goal.judge-requires
+judge-requires c = records-are _ _ _ c.requires
 
 pub carry_out-requires : goal.carry_out-requires
 carry_out-requires c =
-    let told = c.judge-ruling.ensures in
-    record { able = judged-able _ _ _ c.requires.ready _ _ _ _ _ _ told.value c.requires.block_len told.within; le_host = c.requires.le_host; host_le_hosts = c.requires.host_le_hosts }
+    let told = c.in-Ok.ensures in
+    judged-able _ _ _ c.requires _ _ _ _ _ _ told.value _ refl told.within
 
-pub returns : goal.returns
-returns c =
+pub returns-in-Ok : goal.returns-in-Ok
+unfolding meaning
+returns-in-Ok c =
     λ rest buffer g m.
-    rw (judged-is _ _ _ c.requires.ready _ _ _ _ _ _ c.judge-ruling.ensures.value rest g m) at (c.carry_out.ensures rest buffer)
+    ends_as _ buffer (c.carry_out.ensures rest buffer) (judged-is _ _ _ c.requires _ _ _ _ _ _ c.in-Ok.ensures.value rest g m)
+
+pub returns-in-Err : goal.returns-in-Err
+unfolding meaning
+returns-in-Err c =
+    λ rest buffer g m.
+    ends_as _ buffer (c.refused.ensures _ rest buffer) (judged-is _ _ _ c.requires _ _ _ _ _ _ c.in-Err.ensures.value rest g m)

@@ -1,32 +1,33 @@
 -- `ports::judge_export` meets its contract. Assumes nothing.
+use mathlib.Core.Path.{refl}
+use Rattle.std.proofs.lemmas.Result.{err_from_is_err_and}
 use Rattle.rules.specs.Events.{exporting}
-use Rattle.ports.specs.Judged.{meaning}
-use Rattle.ports.proofs.Judging.{port-within, port-room, elsewhere, locked, export-empty, export-full}
+use Rattle.ports.specs.Judged.{meaning, refusal}
+use Rattle.ports.proofs.Judging.{port-within, port-room, opened, shut, export-empty, export-full}
 use Rattle.ports.proofs.judge_export.Goals as goal
 
-pub returns-in_default : goal.returns-in_default
+pub returns-in_err-from : goal.returns-in_err-from
 unfolding meaning exporting
-returns-in_default c =
-    record { result_value = (λ rest s. elsewhere _ _ _ c.find.ensures _ c.requires.runs-are s c.in_default.is _); within = tt }
-
-pub returns-then-mask-ne0 : goal.returns-then-mask-ne0
-unfolding meaning exporting
-returns-then-mask-ne0 c =
-    rw c.prevented.ensures
-    (record { result_value = (λ rest s. locked _ _ _ c.find.ensures _ c.requires.runs-are s _ c.in-At.is _ c.mask-mask.ensures c.if-mask-ne0.true _); within = tt })
+returns-in_err-from c =
+    let p = err_from_is_err_and c.from_residual.result c.from_residual.ensures.1 in
+    rw (p.1, p.2)
+    (record { result_value = (λ rest s. shut _ _ _ _ c.open_port.ensures _ c.requires.runs-are s refl _ _ c.in_err-from.was); within = tt })
 
 pub volume-requires : goal.volume-requires
 volume-requires c =
-    port-room _ _ _ c.find.ensures _ _ c.requires _ c.in-At.is
+    port-room _ _ _ refl _ _ c.requires _ (opened _ _ _ _ c.open_port.ensures _ c.in_ok-from.was).0
 
 pub returns-then-volume-eq0 : goal.returns-then-volume-eq0
-unfolding meaning
+unfolding meaning refusal
 returns-then-volume-eq0 c =
-    record { result_value = (λ rest s. export-empty _ _ _ c.find.ensures _ c.requires.runs-are s _ c.in-At.is _ c.mask-mask.ensures c.if-mask-ne0.false _ c.volume.ensures c.if-volume-eq0.true); within = tt }
+    let port = opened _ _ _ _ c.open_port.ensures _ c.in_ok-from.was in
+    record { result_value = (λ rest s. export-empty _ _ _ refl _ c.requires.runs-are s _ port.0 _ refl port.1 _ c.volume.ensures c.if-volume-eq0.true); within = tt }
 
 pub returns : goal.returns
-unfolding meaning
-returns c = record {
-  result_value = (λ rest s. export-full _ _ _ c.find.ensures _ c.requires.runs-are s _ c.in-At.is _ c.mask-mask.ensures c.if-mask-ne0.false _ c.volume.ensures c.if-volume-eq0.false);
-  within = port-within _ _ _ c.find.ensures _ _ c.requires _ c.in-At.is;
-}
+unfolding meaning refusal
+returns c =
+    let port = opened _ _ _ _ c.open_port.ensures _ c.in_ok-from.was in
+    record {
+      result_value = (λ rest s. export-full _ _ _ refl _ c.requires.runs-are s _ port.0 _ refl port.1 _ c.volume.ensures c.if-volume-eq0.false);
+      within = port-within _ _ _ refl _ _ c.requires _ port.0;
+    }

@@ -8,7 +8,7 @@ use Rattle.rules.specs.Events.{present}
 use Rattle.ports.proofs.present.Goals as goal
 
 pub loop-place-init : goal.loop-place-init
-loop-place-init c = (omega arith, failed-none _ 0)
+loop-place-init c = failed-none _ 0
 
 pub volume-requires : goal.volume-requires
 unfolding places
@@ -17,18 +17,12 @@ volume-requires c = omega arith
 pub returns-then-volume : goal.returns-then-volume
 unfolding present
 returns-then-volume c =
-    found-there _ 0 _ _ (omega arith) (omega (arith, c.places-n.ensures)) (eq-eqb _ _ (sym c.volume.ensures ∙ c.if-volume.true))
-
-pub overflow_add-place : goal.overflow_add-place
-overflow_add-place c = omega arith
-
-pub loop-place-smaller : goal.loop-place-smaller
-loop-place-smaller c = omega arith
+    found-there _ 0 _ _ (omega arith) (omega (arith, c.places-place-end.ensures)) (eq-eqb _ _ (sym c.volume.ensures ∙ c.if-volume.true))
 
 pub loop-place-preserved : goal.loop-place-preserved
 loop-place-preserved c =
-    (omega arith, failed-more _ 0 _ c.loop-place.invariant.1 (ne_eqb _ _ (λ e. c.if-volume.false (c.volume.ensures ∙ e))))
+    failed-more _ 0 _ c.loop-place.invariant (ne_eqb _ _ (λ e. c.if-volume.false (c.volume.ensures ∙ e)))
 
 pub returns : goal.returns
 unfolding present
-returns c = found_nowhere _ 0 _ _ c.loop-place.invariant.1 (omega (arith, c.places-n.ensures))
+returns c = found_nowhere _ 0 _ _ c.loop-place.invariant (omega (arith, c.places-place-end.ensures))

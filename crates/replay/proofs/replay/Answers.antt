@@ -1,20 +1,26 @@
 -- `replay::replay` meets its contract. Assumes nothing.
-use borrow.Author.Tests.{not-true, not-false}
+use mathlib.Core.Path.{sym}
 use Rattle.rules.specs.Tables.{lent}
-use Rattle.replay.proofs.Ways.{told-ends, first-kept, unsound, replayed}
+use Rattle.replay.proofs.Ways.{told-ends, head-whole, search-whole, unsound, kept-whole, ends_whole}
 use Rattle.replay.proofs.replay.Goals as goal
 
-pub returns-then-not-checked : goal.returns-then-not-checked
-returns-then-not-checked c =
-    told-ends _ _ _ _ _ _ _ c.told.ensures (unsound (lent _ _ _) _ _ _ _ c.check-checked.ensures.sound_value (not-true _ c.if-not-checked.true))
+pub returns-in_default : goal.returns-in_default
+returns-in_default c = told-ends _ _ _ _ _ _ _ c.told.ensures (unsound (lent _ _ _) _ _ _ (sym c.in_default.ensures.value))
+
+pub unwrap-head-requires : goal.unwrap-head-requires
+unwrap-head-requires c = c.as_mut_array.ensures.variant.1 (head-whole _ _ c.args.fixed _ (sym c.in-Some.ensures.value))
+
+pub unwrap-search-requires : goal.unwrap-search-requires
+unwrap-search-requires c = c.as_mut_array-2.ensures.variant.1 (search-whole _ _ c.args.fixed _ (sym c.in-Some.ensures.value))
 
 pub turns-requires : goal.turns-requires
 turns-requires c =
-    let whole = not-false _ c.if-not-checked.false in
-    record { kept = first-kept _ _ _ _ c.check-checked.ensures.sound_value whole _ (c.check-checked.ensures.runs whole); tabled = c.tabulate.ensures }
+    let head = rw c.unwrap-head.ensures at c.as_mut_array.ensures.cases in
+    let search = rw c.unwrap-search.ensures at c.as_mut_array-2.ensures.cases in
+    kept-whole _ _ _ _ (sym c.in-Some.ensures.value) _ _ head.same search.same _ c.in-Some.ensures.runs
 
 pub returns : goal.returns
 returns c =
-    let whole = not-false _ c.if-not-checked.false in
-    let kept = first-kept _ _ _ _ c.check-checked.ensures.sound_value whole _ (c.check-checked.ensures.runs whole) in
-    replayed (lent _ _ _) _ _ _ _ c.check-checked.ensures.sound_value whole _ (c.turns.ensures kept.rest kept.given kept.sound-now)
+    let head = rw c.unwrap-head.ensures at c.as_mut_array.ensures.cases in
+    let search = rw c.unwrap-search.ensures at c.as_mut_array-2.ensures.cases in
+    ends_whole _ _ _ _ (sym c.in-Some.ensures.value) _ _ head.same search.same _ _ _ _ _ _ _ c.turns.ensures

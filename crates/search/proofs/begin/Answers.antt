@@ -9,5 +9,5 @@ use Rattle.search.proofs.begin.Goals as goal
 pub returns : goal.returns
 unfolding type_code action_code byte
 returns c =
-    begun _ _ _ _ _ _ _ _ _ c.requires.1.1 (search rules) c.word_at-start.ensures c.copy.ensures c.put_two.ensures
-    c.put_two-2.ensures c.put_two-3.ensures c.put_triple.ensures
+    begun _ _ _ _ _ _ _ _ _ (search rules) (search rules) c.word_at-start.ensures c.copy.ensures c.put.ensures
+    c.put-2.ensures c.put-3.ensures c.put_triple.ensures

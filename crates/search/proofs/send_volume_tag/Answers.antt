@@ -13,9 +13,9 @@ pub returns-then-reserved : goal.returns-then-reserved
 unfolding reason
 returns-then-reserved c = λ elements rest buffer.
     ends_as _ buffer (c.refuse-then-reserved.ensures elements _ buffer)
-    (tag-reserved _ elements rest _ _ _ _ c.if-list-ne-TAG_LIST_SIZE.false _ c.reserved.ensures c.if-reserved.true)
+    (tag-reserved _ elements rest _ _ _ _ c.if-list-ne-TAG_LIST_SIZE.false _ (rw c.whole-list.ensures at c.reserved.ensures) c.if-reserved.true)
 
 pub returns : goal.returns
 returns c = λ elements rest buffer.
-    tag-begun _ elements rest _ _ _ _ c.if-list-ne-TAG_LIST_SIZE.false _ c.reserved.ensures c.if-reserved.false _ _ buffer _ c.begin.ensures
+    tag-begun _ elements rest _ _ _ _ c.if-list-ne-TAG_LIST_SIZE.false _ (rw c.whole-list.ensures at c.reserved.ensures) c.if-reserved.false _ _ buffer _ (rw c.whole-list.ensures at c.begin.ensures)
     (c.good.ensures elements _ buffer)

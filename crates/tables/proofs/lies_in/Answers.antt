@@ -1,7 +1,7 @@
 -- `tables::lies_in` meets its contract. Assumes nothing.
-use Rattle.std.proofs.Common.{rules}
+use Rattle.std.proofs.Common.{rules, refl}
 use Rattle.tables.proofs.Spots.{lies-wrapped}
 use Rattle.tables.proofs.lies_in.Goals as goal
 
 pub returns : goal.returns
-returns c = lies-wrapped _ _ _ c.wrapping_sub_u32-within.ensures.value (search rules) (search rules) (search rules) (search rules)
+returns c = lies-wrapped _ _ _ refl (search rules) (search rules) (search rules) (search rules)

@@ -10,13 +10,13 @@ loop-at-init c = (search rules, bytes-start _ _ _ _ c.find-at.ensures.value)
 pub put_run-requires : goal.put_run-requires
 put_run-requires c = c.loop-at.invariant.1.few
 
-pub returns-in-Stop : goal.returns-in-Stop
-returns-in-Stop c =
-    going-stop _ _ _ _ _ _ _ _ c.loop-at.invariant.1 c.loop-at-test.true _ (c.one_run.ensures ∙ byte-run _ _ _ c.find-to.ensures.value) _ _ c.put_run.ensures _ _ c.in-Stop.is
+pub returns-in_err-count : goal.returns-in_err-count
+returns-in_err-count c =
+    going-stop _ _ _ _ _ _ _ _ c.loop-at.invariant.1 c.loop-at-test.true _ (c.one_run.ensures ∙ byte-run _ _ _ c.find-to.ensures.value) _ _ c.put_run.ensures _ c.in_err-count.was _ (search rules)
 
 pub loop-at-preserved : goal.loop-at-preserved
 loop-at-preserved c =
-    (search rules, going_on _ _ _ _ _ _ _ _ c.loop-at.invariant.1 c.loop-at-test.true _ (c.one_run.ensures ∙ byte-run _ _ _ c.find-to.ensures.value) _ _ c.put_run.ensures _ c.in-Count.is _ (byte_next_lem _ _ _ c.find-to.ensures.value _ c.find-at-in-loop-at.ensures.value) (search rules))
+    (search rules, going_on _ _ _ _ _ _ _ _ c.loop-at.invariant.1 c.loop-at-test.true _ (c.one_run.ensures ∙ byte-run _ _ _ c.find-to.ensures.value) _ _ c.put_run.ensures _ c.in_ok-count.was _ (byte_next_lem _ _ _ c.find-to.ensures.value _ c.find-at-in-loop-at.ensures.value) (search rules))
 
 pub shape_of-bytes : goal.shape_of-bytes
 shape_of-bytes c = c.loop-at.invariant.1.long

@@ -7,7 +7,7 @@ pub returns-then-found-expected : goal.returns-then-found-expected
 returns-then-found-expected c = other_length _ _ _ _ c.if-found-expected.true
 
 pub returns-then-i-found : goal.returns-then-i-found
-returns-then-i-found c = differs _ _ _ _ _ c.alike-i.ensures c.if-found-expected.false _ _ c.if-i-found.true c.wide.ensures c.wide-then-i-found.ensures
+returns-then-i-found c = differs _ _ _ _ _ c.alike-i.ensures c.if-found-expected.false _ _ c.if-i-found.true c.from.ensures c.from-then-i-found.ensures
 
 pub returns : goal.returns
 returns c = same _ _ _ _ _ c.alike-i.ensures c.if-found-expected.false c.if-i-found.false

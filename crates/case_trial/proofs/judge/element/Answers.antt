@@ -14,4 +14,4 @@ pub returns-in_default : goal.returns-in_default
 returns-in_default c = no-element _ _ _ _ _ _ c.runs.ensures c.find.ensures c.if-head-lt-HEAD_SIZE.false c.in_default.is
 
 pub returns : goal.returns
-returns c = an-element _ _ _ _ _ _ c.runs.ensures c.find.ensures c.if-head-lt-HEAD_SIZE.false _ _ c.in-At.is c.field.ensures
+returns c = an-element _ _ _ _ _ _ c.runs.ensures c.find.ensures c.if-head-lt-HEAD_SIZE.false _ _ c.in-Some.is c.field.ensures

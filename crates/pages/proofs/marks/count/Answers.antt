@@ -1,37 +1,37 @@
--- `pages::marks::count` meets its contract: at the loop's head, the marks found and those from here on are all. Assumes nothing.
-use mathlib.Core.Path.{sym}
+-- `pages::marks::count` meets its contract: at the loop's head, those marked of the places passed are counted. Assumes nothing.
+use mathlib.Core.Path.{◌≡◌, refl, sym, ◌∙◌}
 use native.Mathlib.Omega.{arith}
 use Prim.Native.Nat.{◌-◌}
-use Rattle.rules.specs.Bytes.{byte}
-use Rattle.pages.proofs.Marked.{marks-all, marks-end, marks-zero, count-marked, count-not}
+use lib.ListN.{length, take, drop, length-take, length-drop}
+use borrow.Author.Tests.{eqb-true, eqb-false}
+use Rattle.pages.specs.Marks.{marks_in}
+use Rattle.pages.proofs.Marked.{marks-all, marks-part, count-marked, count-not}
 use Rattle.pages.proofs.marks.count.Goals as goal
-use Rattle.pages.proofs.marks.count.Goals.{then-marks-i-ne0, else-marks-i-ne0}
+use Rattle.pages.proofs.marks.count.Goals.{then-mark-ne0, else-mark-ne0}
 
-pub returns-then-marks-eq0 : goal.returns-then-marks-eq0
-returns-then-marks-eq0 c = sym (marks-all _ _ _ c.if-marks-eq0.true)
+pub returns-then-is_empty : goal.returns-then-is_empty
+returns-then-is_empty c = sym (marks-all _ _ _ (eqb-true _ _ (sym c.if-is_empty.ensures)))
 
-pub loop-i-preserved : goal.loop-i-preserved
-unfolding byte
-loop-i-preserved c =
-    let l = c.loop-i in
+pub loop-mark-init : goal.loop-mark-init
+unfolding marks_in
+loop-mark-init c = (refl, omega arith)
+
+pub loop-mark-preserved : goal.loop-mark-preserved
+loop-mark-preserved c =
+    let l = c.loop-mark in
     let marks = c.args.marks.now in
-    let ne = c.if-marks-eq0.false in
-    elim c.if-marks-i-ne0.branch [
-      | then-marks-i-ne0 w ↦
-          let m = count-marked marks l.i c.least-end.result ne c.loop-i-test.true w.if-marks-i-ne0.true in
-          (omega arith, (omega arith, omega arith))
-      | else-marks-i-ne0 w ↦
-          let m = count-not marks l.i c.least-end.result ne c.loop-i-test.true w.if-marks-i-ne0.false in
-          (omega arith, (omega arith, omega arith))
+    let ne = eqb-false _ _ (sym c.if-is_empty.ensures) in
+    let e = rw (← c.min.ensures) at l.invariant.0 in
+    elim c.if-mark-ne0.branch [
+      | then-mark-ne0 w ↦ rw (← c.min.ensures, w.k-is) (count-marked marks _ _ l.mark-index l.k ne c.loop-mark-test.true e w.if-mark-ne0.true, omega (arith, l.invariant.1))
+      | else-mark-ne0 w ↦ rw (← c.min.ensures, w.k-is) (count-not marks _ _ l.mark-index l.k ne c.loop-mark-test.true e w.if-mark-ne0.false, omega (arith, l.invariant.1))
     ]
-
-pub overflow_cast-result : goal.overflow_cast-result
-overflow_cast-result c = omega (arith, c.loop-i.invariant.1.1)
 
 pub returns : goal.returns
 returns c =
-    let l = c.loop-i in
+    let l = c.loop-mark in
     let a = c.args in
-    let z = marks-zero a.marks.now (c.least-end.result - l.i) l.i (omega arith) in
-    let e = rw (← c.least-end.ensures) at (marks-end a.marks.now a.n a.place c.if-marks-eq0.false) in
-    omega arith
+    let ne = eqb-false _ _ (sym c.if-is_empty.ensures) in
+    let n : length (take (c.min-end.result - c.min.result) (drop c.min.result a.marks.now)) ≡ c.min-end.result - c.min.result =
+    simp (length-take, length-drop) (omega (arith, c.min.ensures, c.min-end.ensures)) in
+    l.invariant.0 ∙ marks-part a.marks.now a.n a.place l.mark-index c.min-end.result ne c.min-end.ensures (omega (arith, n, c.min.ensures, c.loop-mark-test.false, l.auto.mark-index-end))

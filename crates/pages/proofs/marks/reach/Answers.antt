@@ -3,21 +3,22 @@ use mathlib.Core.Path.{◌≡◌, sym, ◌∙◌}
 use native.Mathlib.Omega.{arith}
 use Prim.Native.Nat.{◌+◌, ◌-◌}
 use native.Mathlib.Nat.{zero-add, sub-zero, add-zero}
+use borrow.Author.Tests.{eqb-true}
 use Rattle.pages.proofs.Marked.{reach-all, reach-none, reach-empty, reach-on, reach-past}
 use Rattle.pages.proofs.marks.reach.Goals as goal
 use Rattle.pages.proofs.marks.reach.Goals.{then-marked, else-marked}
 
-pub returns-then-marks-eq0 : goal.returns-then-marks-eq0
-returns-then-marks-eq0 c = c.least.ensures ∙ sym (reach-all _ _ _ _ c.if-marks-eq0.true)
+pub returns-then-is_empty : goal.returns-then-is_empty
+returns-then-is_empty c = c.min.ensures ∙ sym (reach-all _ _ _ _ (eqb-true _ _ (sym c.if-is_empty.ensures)))
 
 pub loop-i-init : goal.loop-i-init
-loop-i-init c = (rw (zero-add, sub-zero, add-zero), omega arith)
+loop-i-init c = rw (zero-add, sub-zero, add-zero)
 
 pub returns-then-left-eq0 : goal.returns-then-left-eq0
 returns-then-left-eq0 c =
     let l = c.loop-i in
     let z = reach-none c.args.marks.now (c.args.n - l.i) (c.args.place + l.i) in
-    let e = rw c.if-left-eq0.true at l.invariant.0 in
+    let e = rw c.if-left-eq0.true at l.invariant in
     omega arith
 
 pub loop-i-preserved : goal.loop-i-preserved
@@ -30,10 +31,10 @@ loop-i-preserved c =
     elim c.if-marked.branch [
       | then-marked w ↦
           let r = reach-on marks c.args.place l.left l.i c.args.n n some (sym e ∙ w.if-marked.true) in
-          (rw w.left-is (sym r ∙ l.invariant.0), omega arith)
+          rw w.left-is (sym r ∙ l.invariant)
       | else-marked w ↦
           let r = reach-past marks c.args.place l.left l.i c.args.n n some (sym e ∙ w.if-marked.false) in
-          (rw w.left-is (sym r ∙ l.invariant.0), omega arith)
+          rw w.left-is (sym r ∙ l.invariant)
     ]
 
 pub returns : goal.returns
@@ -41,5 +42,5 @@ returns c =
     let l = c.loop-i in
     let n : c.args.n - l.i ≡ 0 = omega arith in
     let z = reach-empty c.args.marks.now l.left (c.args.place + l.i) in
-    let e = rw n at l.invariant.0 in
+    let e = rw n at l.invariant in
     omega arith

@@ -5,4 +5,4 @@ use Rattle.tables.proofs.head.attend.Goals as goal
 
 pub returns : goal.returns
 unfolding attended
-returns c = c.put_two.ensures ∙ rw c.attention_at.ensures
+returns c = c.put.ensures ∙ rw c.attention_at.ensures
