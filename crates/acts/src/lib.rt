@@ -1,8 +1,8 @@
 // What each command does from step 5 on, for tables that suit, as sound ones do, a block of its length and no fault in it.
 #![tactic(auto)]
 
-ghost use Rattle.std.specs.Prelude.{◌≡◌};
-ghost use Rattle.rules.specs.Tables.{lent};
+ghost use Rattle.std.specs.Prelude.{◌≡◌, ◌≤◌, length};
+ghost use Rattle.rules.specs.Tables.{head_size, lent};
 ghost use Rattle.rules.specs.Order.{outcome, fits};
 ghost use Rattle.rules.specs.Form.{fault};
 ghost use Rattle.rules.specs.Command.{act};
@@ -11,7 +11,7 @@ ghost use Rattle.tables.specs.Lent.{rest_of};
 ghost use Rattle.operation.specs.Meaning.{meaning};
 ghost use Rattle.acts.specs.Suited.{Served};
 
-use layout::{HEAD_SIZE, SEARCH_SIZE};
+use layout::SEARCH_SIZE;
 use moves::Carry;
 use operation::Operation;
 use order::{Cause, Reply};
@@ -23,7 +23,7 @@ use wire::whole;
 pub fn act(
     op: Operation,
     runs: [Range; 4],
-    head: &mut [u8; HEAD_SIZE],
+    head: &mut [u8],
     elements: &mut [u8],
     fixed: Fixed<'_>,
     search: &mut [u8; SEARCH_SIZE],
@@ -32,15 +32,17 @@ pub fn act(
     parameters: &[u8],
     answer: &mut [u8],
 ) -> Reply
+    requires head_long { head_size ≤ length head.old }
     requires served { Served op runs head.old elements.old fixed search.old block.now }
     requires no_fault { fault (meaning op) head.old block.now parameters.now ≡ 0 }
     ensures { ended result (lent head.new elements.new (rest_of fixed.entry search.new)) answer.new ≡ outcome (lent head.old elements.old (rest_of fixed.entry search.old)) answer.old (fits answer.old (act (meaning op) (lent head.old elements.old (rest_of fixed.entry search.old)) host.number block.now parameters.now)) }
 {
+    let who = host.number;
     match op {
-        Operation::TestUnitReady => order::good(head, host),
-        Operation::RequestSense => sense::request_sense(head, host, whole(block), answer),
-        Operation::Reserve => holds::reserve(runs, head, elements, host, whole(block), parameters),
-        Operation::Release => holds::release(head, elements, host, whole(block)),
+        Operation::TestUnitReady => order::good(head, who),
+        Operation::RequestSense => sense::request_sense(head, who, whole(block), answer),
+        Operation::Reserve => holds::reserve(runs, head, elements, who, whole(block), parameters),
+        Operation::Release => holds::release(head, elements, who, whole(block)),
         Operation::PreventAllow => holds::prevent_allow(head, host, whole(block)),
         Operation::MoveMedium => moves::medium(
             Carry::Move,
@@ -68,15 +70,15 @@ pub fn act(
             elements,
             fixed.tags,
             fixed.blank,
-            host,
+            who,
             whole(block),
             answer,
         ),
-        Operation::ModeSense => mode::mode_sense(head, host, whole(block), answer),
+        Operation::ModeSense => mode::mode_sense(head, who, whole(block), answer),
         Operation::SendVolumeTag => search::send_volume_tag(
             head,
             search,
-            host,
+            who,
             whole(block),
             parameters,
         ),
@@ -87,10 +89,10 @@ pub fn act(
             fixed.tags,
             fixed.blank,
             search,
-            host,
+            who,
             whole(block),
             answer,
         ),
-        Operation::Unknown => order::refuse(head, host, Cause::InvalidOperation),
+        Operation::Unknown => order::refuse(head, who, Cause::InvalidOperation),
     }
 }

@@ -1,12 +1,12 @@
 // What a command meets before it is carried out, judged by reading only: steps 1 to 4. Step 4 has a crate of its own.
 #![tactic(auto)]
 
-ghost use Rattle.std.specs.Prelude.{◌≡◌};
+ghost use Rattle.std.specs.Prelude.{◌≡◌, ◌≤◌, length};
+ghost use Rattle.rules.specs.Tables.{head_size, hosts};
 ghost use Rattle.operation.specs.Meaning.{meaning, Fitting};
 ghost use Rattle.admission.specs.Admitting.{meets_attention, reach_of, others_hold, pending, held, admission};
 
 use operation::Operation;
-use tables::Host;
 
 // What keeps a command from being carried out: attention of its host, what another holds, or a field of the block that is at fault, at its byte.
 #[derive(Clone, Copy, PartialEq, Eq)]
@@ -68,17 +68,20 @@ fn reach_of(op: Operation) -> Reach
     }
 }
 
-fn pending(op: Operation, head: &[u8; layout::HEAD_SIZE], host: Host) -> bool
-    ensures { result ≡ pending (meaning op) head.now host.number }
+fn pending(op: Operation, head: &[u8], host: u8) -> bool
+    requires head_long { head_size ≤ length head.now }
+    requires host_known { host ≤ hosts }
+    ensures { result ≡ pending (meaning op) head.now host }
 {
     if meets_attention(op) {
-        return tables::head::attention(head, host.number) != 0;
+        return tables::head::attention(head, host) != 0;
     }
     false
 }
 
 // "if any other host holds unit or element"
-fn others_hold(head: &[u8; layout::HEAD_SIZE], elements: &[u8], host: u8) -> bool
+fn others_hold(head: &[u8], elements: &[u8], host: u8) -> bool
+    requires head_long { head_size ≤ length head.now }
     ensures { result ≡ others_hold head.now elements.now host }
 {
     if order::other(host, tables::head::unit(head)) {
@@ -88,7 +91,8 @@ fn others_hold(head: &[u8; layout::HEAD_SIZE], elements: &[u8], host: u8) -> boo
 }
 
 // Step 3: no command but those of the search looks at the elements.
-fn held(op: Operation, head: &[u8; layout::HEAD_SIZE], elements: &[u8], host: u8) -> bool
+fn held(op: Operation, head: &[u8], elements: &[u8], host: u8) -> bool
+    requires head_long { head_size ≤ length head.now }
     ensures { result ≡ held (meaning op) head.now elements.now host }
 {
     let far = reach_of(op);
@@ -102,19 +106,21 @@ fn held(op: Operation, head: &[u8; layout::HEAD_SIZE], elements: &[u8], host: u8
 // Steps 1 to 4: an operation that is unknown meets none of them, and is refused where the command is chosen. The block has the length of its operation (`Fitting`), as in `form` and `numbers`: a fact of both together.
 pub fn judge(
     op: Operation,
-    head: &[u8; layout::HEAD_SIZE],
+    head: &[u8],
     elements: &[u8],
-    host: Host,
+    host: u8,
     block: &[u8],
     list: &[u8],
 ) -> Result<(), Barrier>
-    requires { Fitting op block.now }
-    ensures { result ≡ admission op head.now elements.now host.number block.now list.now }
+    requires head_long { head_size ≤ length head.now }
+    requires host_known { host ≤ hosts }
+    requires fitting { Fitting op block.now }
+    ensures { result ≡ admission op head.now elements.now host block.now list.now }
 {
     if pending(op, head, host) {
         return Err(Barrier::Pending);
     }
-    if held(op, head, elements, host.number) {
+    if held(op, head, elements, host) {
         return Err(Barrier::Held);
     }
     match form::fault(op, head, block, list) {

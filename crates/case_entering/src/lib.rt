@@ -1,4 +1,4 @@
-// How a case enters the core: by the entry that its line names. What that leaves is the rules' own outcome.
+// How a case enters the core: by the call of `serving` that its line names. What that leaves is the rules' own outcome.
 #![tactic(auto)]
 
 ghost use Rattle.std.specs.Prelude.{◌≡◌, [], length};

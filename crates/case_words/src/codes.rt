@@ -1,6 +1,23 @@
 // Addresses, statuses and sense, as the paper writes them.
 use std::fmt;
 
+// A number's last hexadecimal digits, so many, which go out as one text: each write may be a call of the system, and a width in a format writes its zeros one by one.
+#[derive(Clone, Copy)]
+pub(crate) struct Digits(pub(crate) u32, pub(crate) usize);
+
+impl fmt::Display for Digits {
+    fn fmt<W: fmt::Write>(&self, f: &mut fmt::Formatter<W>) -> fmt::Result {
+        let mut digits = [b'0'; 8];
+        let mut rest = self.0;
+        for digit in digits.iter_mut().rev() {
+            *digit = b"0123456789ABCDEF"[(rest % 16) as usize];
+            rest /= 16;
+        }
+        let last = digits.get(8usize.saturating_sub(self.1)..).unwrap_or(&[]);
+        f.write_str(str::from_utf8(last).unwrap_or_default())
+    }
+}
+
 // An address, in four digits, or in eight.
 #[derive(Clone, Copy)]
 pub struct Address(pub u32);
@@ -8,8 +25,8 @@ pub struct Address(pub u32);
 impl fmt::Display for Address {
     fn fmt<W: fmt::Write>(&self, f: &mut fmt::Formatter<W>) -> fmt::Result {
         match self.0 {
-            n @ 0..=0xFFFF => write!(f, "{n:04X}h"),
-            n => write!(f, "{n:08X}h"),
+            n @ 0..=0xFFFF => write!(f, "{}h", Digits(n, 4)),
+            n => write!(f, "{}h", Digits(n, 8)),
         }
     }
 }
@@ -21,7 +38,7 @@ pub struct Code(pub u32);
 impl fmt::Display for Code {
     fn fmt<W: fmt::Write>(&self, f: &mut fmt::Formatter<W>) -> fmt::Result {
         match self.0 {
-            n @ 0..=0xFF => write!(f, "{n:02X}h"),
+            n @ 0..=0xFF => write!(f, "{}h", Digits(n, 2)),
             n => write!(f, "{}", Address(n)),
         }
     }
@@ -34,7 +51,12 @@ pub struct Attention(pub u32);
 impl fmt::Display for Attention {
     fn fmt<W: fmt::Write>(&self, f: &mut fmt::Formatter<W>) -> fmt::Result {
         let [_, _, asc, ascq] = self.0.to_be_bytes();
-        write!(f, "{asc:02X}/{ascq:02X}")
+        write!(
+            f,
+            "{}/{}",
+            Digits(u32::from(asc), 2),
+            Digits(u32::from(ascq), 2)
+        )
     }
 }
 

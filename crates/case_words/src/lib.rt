@@ -4,6 +4,7 @@
 mod codes;
 mod differing;
 
+use codes::Digits;
 pub use codes::{Address, Attention, Code, Sense};
 pub use differing::Differing;
 use std::fmt;
@@ -12,12 +13,18 @@ use std::fmt;
 #[derive(Clone, Copy)]
 pub struct Name<'a>(pub &'a [u8]);
 
+// A byte that stands in the output as itself.
+fn printable(byte: u8) -> bool {
+    matches!(byte, b' '..=b'~')
+}
+
 impl fmt::Display for Name<'_> {
+    // What can be printed goes out in runs, not byte by byte: each write may be a call of the system.
     fn fmt<W: fmt::Write>(&self, f: &mut fmt::Formatter<W>) -> fmt::Result {
-        for byte in self.0 {
-            match byte {
-                b' '..=b'~' => write!(f, "{}", char::from(*byte))?,
-                _ => write!(f, "\\x{byte:02X}")?,
+        for run in self.0.chunk_by(|a, b| printable(*a) && printable(*b)) {
+            match run {
+                [byte] if !printable(*byte) => write!(f, "\\x{}", Digits(u32::from(*byte), 2))?,
+                _ => f.write_str(str::from_utf8(run).unwrap_or_default())?,
             }
         }
         Ok(())

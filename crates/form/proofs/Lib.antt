@@ -1,3 +1,2 @@
 pub mod Strays
 pub mod Lowest
-pub mod Masked

@@ -2,6 +2,7 @@
 #![tactic(auto)]
 
 ghost use Rattle.std.specs.Prelude.{◌≡◌, List, ℕ, ◌+◌, ◌≤◌, length};
+ghost use Rattle.rules.specs.Tables.{head_size};
 ghost use Rattle.rules.specs.Operation.{Reserve, ModeSense};
 ghost use Rattle.rules.specs.Form.{unused, stray as strayIn, type_fault, action_fault, own_fault, lower as lowerOf, fault as faultOf};
 ghost use Rattle.operation.specs.Meaning.{meaning, Fitting};
@@ -43,27 +44,6 @@ const SEND_VOLUME_TAG_UNUSED: [u8; 11] = [0x10, 0, 0, 0xFF, 0xE0, 0xFF, 0xFF, 0,
 // byte 1 bit 4 tags, bits 0-3 type, 2-3 start, 4-5 most elements, 7-8 allocation
 const REQUEST_ADDRESS_UNUSED: [u8; 11] = [0, 0, 0, 0, 0, 0xFF, 0, 0, 0xFF, 0xFF, 0xFF];
 
-// The bits without a use of an operation's block.
-#[tactic(auto, unfolding(rules::specs::Form::unused, operation::specs::Meaning::meaning))]
-fn unused(op: Operation) -> &'static [u8]
-    ensures { result.now ≡ unused (meaning op) }
-{
-    match op {
-        Operation::TestUnitReady => &TEST_UNIT_READY_UNUSED,
-        Operation::RequestSense => &REQUEST_SENSE_UNUSED,
-        Operation::Reserve => &RESERVE_UNUSED,
-        Operation::Release => &RELEASE_UNUSED,
-        Operation::PreventAllow => &PREVENT_ALLOW_UNUSED,
-        Operation::MoveMedium => &MOVE_MEDIUM_UNUSED,
-        Operation::ExchangeMedium => &EXCHANGE_MEDIUM_UNUSED,
-        Operation::ReadElementStatus => &READ_ELEMENT_STATUS_UNUSED,
-        Operation::ModeSense => &MODE_SENSE_UNUSED,
-        Operation::SendVolumeTag => &SEND_VOLUME_TAG_UNUSED,
-        Operation::RequestVolumeElementAddress => &REQUEST_ADDRESS_UNUSED,
-        Operation::Unknown => &[],
-    }
-}
-
 // The lowest byte that has a bit without a use.
 fn stray(block: &[u8], masks: &[u8]) -> Option<usize>
     requires { length masks.now + 1 ≤ length block.now }
@@ -75,6 +55,29 @@ fn stray(block: &[u8], masks: &[u8]) -> Option<usize>
         }
     }
     None
+}
+
+// The lowest byte of an operation's block that has a bit without a use. Each arm names its masks itself, so that the compiler tests those bytes alone that have such bits, and goes
+// through no list.
+#[tactic(auto, unfolding(operation::specs::Meaning::meaning))]
+fn unused(op: Operation, block: &[u8]) -> Option<usize>
+    requires { Fitting op block.now }
+    ensures { result ≡ byte_at (strayIn (unused (meaning op)) block.now) }
+{
+    match op {
+        Operation::TestUnitReady => stray(block, &TEST_UNIT_READY_UNUSED),
+        Operation::RequestSense => stray(block, &REQUEST_SENSE_UNUSED),
+        Operation::Reserve => stray(block, &RESERVE_UNUSED),
+        Operation::Release => stray(block, &RELEASE_UNUSED),
+        Operation::PreventAllow => stray(block, &PREVENT_ALLOW_UNUSED),
+        Operation::MoveMedium => stray(block, &MOVE_MEDIUM_UNUSED),
+        Operation::ExchangeMedium => stray(block, &EXCHANGE_MEDIUM_UNUSED),
+        Operation::ReadElementStatus => stray(block, &READ_ELEMENT_STATUS_UNUSED),
+        Operation::ModeSense => stray(block, &MODE_SENSE_UNUSED),
+        Operation::SendVolumeTag => stray(block, &SEND_VOLUME_TAG_UNUSED),
+        Operation::RequestVolumeElementAddress => stray(block, &REQUEST_ADDRESS_UNUSED),
+        Operation::Unknown => None,
+    }
 }
 
 // RESERVE with Element 0: "list length must be 0 (else 5/24/00)"
@@ -112,7 +115,8 @@ fn action_fault(block: &[u8; 12]) -> Option<usize>
 }
 
 // "other page controls and pages", and too long an answer
-fn page_fault(head: &[u8; layout::HEAD_SIZE], block: &[u8; 6]) -> Option<usize>
+fn page_fault(head: &[u8], block: &[u8; 6]) -> Option<usize>
+    requires head_long { head_size ≤ length head.now }
     ensures { (list : List ℕ) → result ≡ byte_at (own_fault ModeSense head.now block.now list) }
 {
     if mode::no_answer(head, block) {
@@ -134,13 +138,9 @@ fn lower(i: Option<usize>, j: Option<usize>) -> Option<usize>
 
 // A fault of the command's own; SEND VOLUME TAG may be at fault in both.
 #[tactic(auto, unfolding(rules::specs::Form::own_fault, operation::specs::Meaning::meaning, rules::specs::Choice::when))]
-fn own_fault(
-    op: Operation,
-    head: &[u8; layout::HEAD_SIZE],
-    block: &[u8],
-    list: &[u8],
-) -> Option<usize>
-    requires { Fitting op block.now }
+fn own_fault(op: Operation, head: &[u8], block: &[u8], list: &[u8]) -> Option<usize>
+    requires head_long { head_size ≤ length head.now }
+    requires fitting { Fitting op block.now }
     ensures { result ≡ byte_at (own_fault (meaning op) head.now block.now list.now) }
 {
     match op {
@@ -164,14 +164,10 @@ fn own_fault(
 }
 
 // Where step 4 finds a fault: the lowest byte. That the block has the length of its operation (`Fitting`) is a fact of both together.
-pub fn fault(
-    op: Operation,
-    head: &[u8; layout::HEAD_SIZE],
-    block: &[u8],
-    list: &[u8],
-) -> Option<usize>
-    requires { Fitting op block.now }
+pub fn fault(op: Operation, head: &[u8], block: &[u8], list: &[u8]) -> Option<usize>
+    requires head_long { head_size ≤ length head.now }
+    requires fitting { Fitting op block.now }
     ensures { result ≡ byte_at (faultOf (meaning op) head.now block.now list.now) }
 {
-    lower(stray(block, unused(op)), own_fault(op, head, block, list))
+    lower(unused(op, block), own_fault(op, head, block, list))
 }

@@ -3,7 +3,7 @@
 
 ghost use Rattle.std.specs.Prelude.{◌≡◌, List, ℕ, ◌+◌, ◌*◌, ◌<◌, ◌≤◌, length, OnOk};
 ghost use Rattle.rules.specs.Choice.{any_from};
-ghost use Rattle.rules.specs.Tables.{element_size, element_at, most_elements, places, lent, Rest};
+ghost use Rattle.rules.specs.Tables.{head_size, hosts, element_size, element_at, most_elements, places, lent, Rest};
 ghost use Rattle.rules.specs.Order.{outcome, good};
 ghost use Rattle.rules.specs.Holds.{descriptors, taken, reserve_unit, reserve, release_unit, release, new_mask, prevent};
 ghost use Rattle.order.specs.Ending.{ended};
@@ -111,19 +111,18 @@ fn grant(elements: &mut [u8], claim: Claim, marks: &[u8; layout::MOST_ELEMENTS])
 
 fn reserve_elements(
     runs: [Range; 4],
-    head: &mut [u8; layout::HEAD_SIZE],
+    head: &mut [u8],
     elements: &mut [u8],
-    host: Host,
+    host: u8,
     id: u8,
     list: &[u8],
 ) -> Reply
-    requires { LaidOut runs elements.old }
-    ensures { (rest : Rest) (buffer : List ℕ) → ended result (lent head.new elements.new rest) buffer ≡ outcome (lent head.old elements.old rest) buffer (meaning (laid runs) host.number id list.now (elements_by (laid runs) elements.old host.number id list.now)) }
+    requires head_long { head_size ≤ length head.old }
+    requires host_known { host ≤ hosts }
+    requires laid_out { LaidOut runs elements.old }
+    ensures { (rest : Rest) (buffer : List ℕ) → ended result (lent head.new elements.new rest) buffer ≡ outcome (lent head.old elements.old rest) buffer (meaning (laid runs) host id list.now (elements_by (laid runs) elements.old host id list.now)) }
 {
-    let claim = Claim {
-        host: host.number,
-        id,
-    };
+    let claim = Claim { host, id };
     let mut marks = [0u8; layout::MOST_ELEMENTS];
     match judge_elements(runs, elements, claim, list, &mut marks) {
         Ok(()) => {
@@ -137,27 +136,31 @@ fn reserve_elements(
 // ---- the commands
 
 // "refused 18h if another host holds any element, else the host holds the unit"
-fn reserve_unit(head: &mut [u8; layout::HEAD_SIZE], elements: &[u8], host: Host) -> Reply
-    ensures { (rest : Rest) (buffer : List ℕ) → ended result (lent head.new elements.now rest) buffer ≡ outcome (lent head.old elements.now rest) buffer (reserve_unit (lent head.old elements.now rest) host.number) }
+fn reserve_unit(head: &mut [u8], elements: &[u8], host: u8) -> Reply
+    requires head_long { head_size ≤ length head.old }
+    requires host_known { host ≤ hosts }
+    ensures { (rest : Rest) (buffer : List ℕ) → ended result (lent head.new elements.now rest) buffer ≡ outcome (lent head.old elements.now rest) buffer (reserve_unit (lent head.old elements.now rest) host) }
 {
-    if order::any_other(elements, host.number) {
+    if order::any_other(elements, host) {
         return order::conflict(head, host);
     }
     let reply = order::good(head, host);
-    tables::head::hold_unit(head, host.number);
+    tables::head::hold_unit(head, host);
     reply
 }
 
 pub fn reserve(
     runs: [Range; 4],
-    head: &mut [u8; layout::HEAD_SIZE],
+    head: &mut [u8],
     elements: &mut [u8],
-    host: Host,
+    host: u8,
     block: &[u8; 6],
     list: &[u8],
 ) -> Reply
-    requires { Reservable runs head.old elements.old }
-    ensures { (rest : Rest) (buffer : List ℕ) → ended result (lent head.new elements.new rest) buffer ≡ outcome (lent head.old elements.old rest) buffer (reserve (lent head.old elements.old rest) host.number block.now list.now) }
+    requires head_long { head_size ≤ length head.old }
+    requires host_known { host ≤ hosts }
+    requires reservable { Reservable runs head.old elements.old }
+    ensures { (rest : Rest) (buffer : List ℕ) → ended result (lent head.new elements.new rest) buffer ≡ outcome (lent head.old elements.old rest) buffer (reserve (lent head.old elements.old rest) host block.now list.now) }
 {
     if block[1] % 2 == 0 {
         return reserve_unit(head, elements, host);
@@ -166,31 +169,30 @@ pub fn reserve(
 }
 
 // "frees the unit, if held by this host, and all its elements"
-fn release_unit(head: &mut [u8; layout::HEAD_SIZE], elements: &mut [u8], host: Host) -> Reply
-    ensures { (rest : Rest) (buffer : List ℕ) → ended result (lent head.new elements.new rest) buffer ≡ outcome (lent head.old elements.old rest) buffer (good host.number (release_unit (lent head.old elements.old rest) host.number)) }
+fn release_unit(head: &mut [u8], elements: &mut [u8], host: u8) -> Reply
+    requires head_long { head_size ≤ length head.old }
+    requires host_known { host ≤ hosts }
+    ensures { (rest : Rest) (buffer : List ℕ) → ended result (lent head.new elements.new rest) buffer ≡ outcome (lent head.old elements.old rest) buffer (good host (release_unit (lent head.old elements.old rest) host)) }
 {
     let unit = tables::head::unit(head);
     let reply = order::good(head, host);
-    frees::free(elements, Whose::Every(host.number));
-    if unit == host.number {
+    frees::free(elements, Whose::Every(host));
+    if unit == host {
         tables::head::hold_unit(head, 0);
     }
     reply
 }
 
-pub fn release(
-    head: &mut [u8; layout::HEAD_SIZE],
-    elements: &mut [u8],
-    host: Host,
-    block: &[u8; 6],
-) -> Reply
-    ensures { (rest : Rest) (buffer : List ℕ) → ended result (lent head.new elements.new rest) buffer ≡ outcome (lent head.old elements.old rest) buffer (release (lent head.old elements.old rest) host.number block.now) }
+pub fn release(head: &mut [u8], elements: &mut [u8], host: u8, block: &[u8; 6]) -> Reply
+    requires head_long { head_size ≤ length head.old }
+    requires host_known { host ≤ hosts }
+    ensures { (rest : Rest) (buffer : List ℕ) → ended result (lent head.new elements.new rest) buffer ≡ outcome (lent head.old elements.old rest) buffer (release (lent head.old elements.old rest) host block.now) }
 {
     if block[1] % 2 == 0 {
         return release_unit(head, elements, host);
     }
     let number = block[2];
-    frees::free(elements, Whose::Under(host.number, number));
+    frees::free(elements, Whose::Under(host, number));
     order::good(head, host)
 }
 
@@ -205,11 +207,12 @@ fn new_mask(mask: u8, host: Host, block: &[u8; 6]) -> u8
     tables::mask::preventing(mask, host.number)
 }
 
-pub fn prevent_allow(head: &mut [u8; layout::HEAD_SIZE], host: Host, block: &[u8; 6]) -> Reply
+pub fn prevent_allow(head: &mut [u8], host: Host, block: &[u8; 6]) -> Reply
+    requires head_long { head_size ≤ length head.old }
     ensures { (elements : List ℕ) (rest : Rest) (buffer : List ℕ) → ended result (lent head.new elements rest) buffer ≡ outcome (lent head.old elements rest) buffer (prevent (lent head.old elements rest) host.number block.now) }
 {
     let mask = new_mask(tables::head::mask(head), host, block);
-    let reply = order::good(head, host);
+    let reply = order::good(head, host.number);
     tables::head::set_mask(head, mask);
     reply
 }

@@ -4,7 +4,7 @@
 
 ghost use Rattle.std.specs.Prelude.{◌≡◌, ◌+◌, ◌*◌, ◌≤◌, ◌<◌, length};
 ghost use Rattle.rules.specs.Bytes.{put, cut};
-ghost use Rattle.rules.specs.Tables.{Tables, Rest, element_at, lent};
+ghost use Rattle.rules.specs.Tables.{head_size, hosts, Tables, Rest, element_at, lent};
 ghost use Rattle.rules.specs.Order.{outcome, fits};
 ghost use Rattle.rules.specs.Listing.{header, read_status};
 ghost use Rattle.rules.specs.Ranges.{Each, total};
@@ -17,7 +17,7 @@ ghost use Rattle.listing.specs.Counting.{Inside, Listable, Readable, Answers, Sm
 
 use order::{House, Reply, Status};
 use pages::{Page, Slot, Stock};
-use tables::{Host, Range};
+use tables::Range;
 
 // What a host asks for: tags, type code, start; and the action that the header tells, which READ ELEMENT STATUS has none of. The rules and the block have 0 for every type, the
 // header 0 for no action.
@@ -354,16 +354,18 @@ pub fn query_of(block: &[u8; 12], action: u8) -> Query
 // READ ELEMENT STATUS for tables that can be listed by their runs, as sound ones can.
 pub fn read_element_status(
     runs: [Range; 4],
-    head: &mut [u8; layout::HEAD_SIZE],
+    head: &mut [u8],
     elements: &[u8],
     tags: &[u8],
     blank: &[u8],
-    host: Host,
+    host: u8,
     block: &[u8; 12],
     answer: &mut [u8],
 ) -> Reply
-    requires { Readable runs head.old (stock elements.now tags.now blank.now) }
-    ensures { (rest : Rest) → Lends rest tags.now blank.now → ended result (lent head.new elements.now rest) answer.new ≡ outcome (lent head.old elements.now rest) answer.old (fits answer.old (read_status (lent head.old elements.now rest) host.number block.now)) }
+    requires head_long { head_size ≤ length head.old }
+    requires host_known { host ≤ hosts }
+    requires readable { Readable runs head.old (stock elements.now tags.now blank.now) }
+    ensures { (rest : Rest) → Lends rest tags.now blank.now → ended result (lent head.new elements.now rest) answer.new ≡ outcome (lent head.old elements.now rest) answer.old (fits answer.old (read_status (lent head.old elements.now rest) host block.now)) }
 {
     let q = query_of(block, 0);
     let limits = Limits {
@@ -379,7 +381,7 @@ pub fn read_element_status(
     };
     match list(answer, stock, q, limits, runs).count {
         Ok(count) => {
-            tables::head::wipe(head, host.number);
+            tables::head::wipe(head, host);
             order::told(Status::Good, count)
         }
         Err(why) => order::numbered(why),

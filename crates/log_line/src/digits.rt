@@ -10,8 +10,8 @@ const NONE: u8 = 16;
 // The values of all bytes as digits, one behind the other: made once, and lent to every line.
 #[derive(Drop)]
 pub struct DigitTable {
-    values: [u8; 256],
-    ghost tabled: { Tabled values },
+    pub values: [u8; 256],
+    pub ghost tabled: { Tabled values },
 }
 
 // The value of a digit, "in upper-case hexadecimal".

@@ -1,8 +1,8 @@
 // A recorded command: steps 1 to 8 as for one that is sent, but "answers aren't kept", so none is made.
 #![tactic(auto)]
 
-ghost use Rattle.std.specs.Prelude.{◌≡◌, List, ℕ};
-ghost use Rattle.rules.specs.Tables.{lent, searching, Rest};
+ghost use Rattle.std.specs.Prelude.{◌≡◌, ◌≤◌, List, ℕ, length};
+ghost use Rattle.rules.specs.Tables.{head_size, lent, searching, Rest};
 ghost use Rattle.rules.specs.Order.{after};
 ghost use Rattle.rules.specs.Sense.{request_sense};
 ghost use Rattle.rules.specs.Command.{act, steps_of};
@@ -13,17 +13,18 @@ ghost use Rattle.listing.specs.Counting.{Listable};
 ghost use Rattle.log_steps.specs.Recorded.{Recorded, Given};
 
 use admission::Barrier;
-use layout::{HEAD_SIZE, SEARCH_SIZE};
+use layout::SEARCH_SIZE;
 use moves::Carry;
 use operation::Operation;
 use order::Cause;
 use tables::{Fixed, Host, Range};
 
 // REQUEST SENSE: "What was told is cleared, allocation 0 included."
-fn forget(head: &mut [u8; HEAD_SIZE], host: Host)
+fn forget(head: &mut [u8], host: Host)
+    requires head_long { head_size ≤ length head.old }
     ensures { (elements : List ℕ) (rest : Rest) (block : List ℕ) → lent head.new elements rest ≡ after (request_sense (lent head.old elements rest) host.number block) (lent head.old elements rest) }
 {
-    if sense::tells_attention(head, host) {
+    if sense::tells_attention(head, host.number) {
         tables::head::attend(head, host.number, 0, 0);
         return;
     }
@@ -34,7 +35,7 @@ fn forget(head: &mut [u8; HEAD_SIZE], host: Host)
 fn command(
     op: Operation,
     runs: [Range; 4],
-    head: &mut [u8; HEAD_SIZE],
+    head: &mut [u8],
     elements: &mut [u8],
     fixed: Fixed<'_>,
     search: &mut [u8; SEARCH_SIZE],
@@ -42,19 +43,21 @@ fn command(
     block: &[u8],
     parameters: &[u8],
 )
-    requires { Recorded op runs head.old elements.old fixed search.old block.now }
+    requires head_long { head_size ≤ length head.old }
+    requires recorded { Recorded op runs head.old elements.old fixed search.old block.now }
     ensures { (rest : Rest) → Given rest fixed.entry → Listable (meant runs) (stock elements.old rest.tags rest.blank) → lent head.new elements.new (searching rest search.new) ≡ after (act (meaning op) (lent head.old elements.old (searching rest search.old)) host.number block.now parameters.now) (lent head.old elements.old (searching rest search.old)) }
 {
+    let who = host.number;
     match op {
         Operation::TestUnitReady | Operation::ReadElementStatus | Operation::ModeSense => {
-            order::good(head, host);
+            order::good(head, who);
         }
         Operation::RequestSense => forget(head, host),
         Operation::Reserve => {
-            holds::reserve(runs, head, elements, host, wire::whole(block), parameters);
+            holds::reserve(runs, head, elements, who, wire::whole(block), parameters);
         }
         Operation::Release => {
-            holds::release(head, elements, host, wire::whole(block));
+            holds::release(head, elements, who, wire::whole(block));
         }
         Operation::PreventAllow => {
             holds::prevent_allow(head, host, wire::whole(block));
@@ -84,7 +87,7 @@ fn command(
             );
         }
         Operation::SendVolumeTag => {
-            search::send_volume_tag(head, search, host, wire::whole(block), parameters);
+            search::send_volume_tag(head, search, who, wire::whole(block), parameters);
         }
         Operation::RequestVolumeElementAddress => {
             finding::go_on(
@@ -93,12 +96,12 @@ fn command(
                 elements,
                 fixed.tags,
                 search,
-                host,
+                who,
                 wire::whole(block),
             );
         }
         Operation::Unknown => {
-            order::refuse(head, host, Cause::InvalidOperation);
+            order::refuse(head, who, Cause::InvalidOperation);
         }
     }
 }
@@ -107,7 +110,7 @@ fn command(
 pub fn carry_out(
     op: Operation,
     runs: [Range; 4],
-    head: &mut [u8; HEAD_SIZE],
+    head: &mut [u8],
     elements: &mut [u8],
     fixed: Fixed<'_>,
     search: &mut [u8; SEARCH_SIZE],
@@ -115,18 +118,19 @@ pub fn carry_out(
     block: &[u8],
     parameters: &[u8],
 )
-    requires { Recorded op runs head.old elements.old fixed search.old block.now }
+    requires head_long { head_size ≤ length head.old }
+    requires recorded { Recorded op runs head.old elements.old fixed search.old block.now }
     ensures { (rest : Rest) → Given rest fixed.entry → Listable (meant runs) (stock elements.old rest.tags rest.blank) → lent head.new elements.new (searching rest search.new) ≡ after (steps_of (meaning op) (lent head.old elements.old (searching rest search.old)) host.number block.now parameters.now) (lent head.old elements.old (searching rest search.old)) }
 {
-    match admission::judge(op, head, elements, host, block, parameters) {
+    match admission::judge(op, head, elements, host.number, block, parameters) {
         Err(Barrier::Pending) => {
-            sense::attention::report(head, host);
+            sense::attention::report(head, host.number);
         }
         Err(Barrier::Held) => {
-            order::conflict(head, host);
+            order::conflict(head, host.number);
         }
         Err(Barrier::Faulty(at)) => {
-            order::refuse(head, host, Cause::InvalidField(at));
+            order::refuse(head, host.number, Cause::InvalidField(at));
         }
         Ok(()) => command(
             op, runs, head, elements, fixed, search, host, block, parameters,

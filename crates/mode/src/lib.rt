@@ -4,7 +4,7 @@
 
 ghost use Rattle.std.specs.Prelude.{◌≡◌, false, List, ℕ, ◌+◌, ◌*◌, ◌≤◌, ◌<◌, Ok, length};
 ghost use Rattle.rules.specs.Bytes.{put};
-ghost use Rattle.rules.specs.Tables.{lent, Rest};
+ghost use Rattle.rules.specs.Tables.{head_size, hosts, lent, Rest};
 ghost use Rattle.rules.specs.Roster.{range, ranges};
 ghost use Rattle.rules.specs.Order.{outcome, fits};
 ghost use Rattle.rules.specs.Mode.{page_code, paged, assigned, assignments, members, capabilities as capabilitiesOf, sought as soughtOf, known_page, mode_whole, no_answer, mode_sense};
@@ -12,7 +12,6 @@ ghost use Rattle.order.specs.Ending.{ended};
 ghost use Rattle.mode.specs.Judged.{kinds as kindsOf, piece, bytes_of, most, meaning, mode_by, Within};
 
 use order::{House, Reply, Status};
-use tables::Host;
 
 // "pages 1Dh, 1Eh, 1Fh and 3Fh for all"
 const ADDRESSES: u8 = 0x1D;
@@ -63,7 +62,8 @@ fn sought(code: u8, page: u8) -> bool
     code == page || code == ALL_PAGES
 }
 
-fn transports(head: &[u8; layout::HEAD_SIZE]) -> usize
+fn transports(head: &[u8]) -> usize
+    requires head_long { head_size ≤ length head.now }
     ensures value { result ≡ (range head.now 0).count }
     ensures upper_bound { result < 65536 }
 {
@@ -84,7 +84,8 @@ fn bytes_of(code: u8, page: u8, n: usize) -> usize
 }
 
 // The bytes of the whole answer.
-fn whole_bytes(head: &[u8; layout::HEAD_SIZE], code: u8) -> usize
+fn whole_bytes(head: &[u8], code: u8) -> usize
+    requires head_long { head_size ≤ length head.now }
     ensures { result ≡ length (mode_whole head.now code) }
 {
     let a = bytes_of(code, ADDRESSES, FIXED);
@@ -94,7 +95,8 @@ fn whole_bytes(head: &[u8; layout::HEAD_SIZE], code: u8) -> usize
 }
 
 // "other page controls and pages", and an answer too long: what step 4 asks.
-pub fn no_answer(head: &[u8; layout::HEAD_SIZE], block: &[u8; 6]) -> bool
+pub fn no_answer(head: &[u8], block: &[u8; 6]) -> bool
+    requires head_long { head_size ≤ length head.now }
     ensures { result ≡ no_answer head.now block.now }
 {
     if block[2] / 64 != 0 {
@@ -110,8 +112,9 @@ pub fn no_answer(head: &[u8; layout::HEAD_SIZE], block: &[u8; 6]) -> bool
 // ---- the pages, each written from a place on
 
 // 001, table 33: of the k-th type the first address and the number.
-fn assign(d: &mut [u8], at: usize, head: &[u8; layout::HEAD_SIZE], k: usize)
-    requires { (at + 4 ≤ length d.old) × (k < 4) }
+fn assign(d: &mut [u8], at: usize, head: &[u8], k: usize)
+    requires head_long { head_size ≤ length head.now }
+    requires room { (at + 4 ≤ length d.old) × (k < 4) }
     ensures { d.new ≡ put d.old at (assigned (range head.now k)) }
 {
     let first = wire::word_at(head, layout::RANGE_SIZE * k);
@@ -121,8 +124,9 @@ fn assign(d: &mut [u8], at: usize, head: &[u8; layout::HEAD_SIZE], k: usize)
 }
 
 // 001, table 33: all four, then two reserved bytes.
-fn addresses(d: &mut [u8], at: usize, head: &[u8; layout::HEAD_SIZE])
-    requires { at + 20 ≤ length d.old }
+fn addresses(d: &mut [u8], at: usize, head: &[u8])
+    requires head_long { head_size ≤ length head.now }
+    requires room { at + 20 ≤ length d.old }
     ensures { d.new ≡ put d.old at (paged 0x1D (assignments (ranges head.now))) }
 {
     wire::put(d, at, [ADDRESSES, FIXED as u8]);
@@ -173,8 +177,9 @@ fn capabilities(d: &mut [u8], at: usize)
 // ---- the answer
 
 // Each page, if it is asked for; hands back the place behind it. The three differ in what they write from: a closure for that would leave nothing else in one.
-fn with_addresses(d: &mut [u8], at: usize, head: &[u8; layout::HEAD_SIZE], code: u8) -> usize
-    requires { at + bytes_of code 0x1D 18 ≤ length d.old }
+fn with_addresses(d: &mut [u8], at: usize, head: &[u8], code: u8) -> usize
+    requires head_long { head_size ≤ length head.now }
+    requires room { at + bytes_of code 0x1D 18 ≤ length d.old }
     ensures d_after { d.new ≡ put d.old at (piece code 0x1D (assignments (ranges head.now))) }
     ensures value { result ≡ at + bytes_of code 0x1D 18 }
 {
@@ -207,8 +212,9 @@ fn with_capabilities(d: &mut [u8], at: usize, code: u8)
 }
 
 // The header and the pages, by rising code.
-fn whole(d: &mut [u8; MOST], head: &[u8; layout::HEAD_SIZE], code: u8)
-    requires { length (mode_whole head.now code) ≤ most }
+fn whole(d: &mut [u8; MOST], head: &[u8], code: u8)
+    requires head_long { head_size ≤ length head.now }
+    requires short { length (mode_whole head.now code) ≤ most }
     ensures { d.new ≡ put d.old 0 (mode_whole head.now code) }
 {
     let n = whole_bytes(head, code);
@@ -221,12 +227,8 @@ fn whole(d: &mut [u8; MOST], head: &[u8; layout::HEAD_SIZE], code: u8)
 // ---- the command
 
 // Judged by reading only: the answer buffer has room for so many bytes.
-fn judge(
-    head: &[u8; layout::HEAD_SIZE],
-    code: u8,
-    allocation: u8,
-    room: usize,
-) -> Result<usize, House>
+fn judge(head: &[u8], code: u8, allocation: u8, room: usize) -> Result<usize, House>
+    requires head_long { head_size ≤ length head.now }
     ensures value { result ≡ mode_by head.now code allocation room }
     ensures within { Within head.now code room result }
 {
@@ -238,33 +240,26 @@ fn judge(
 }
 
 // The first so many bytes of the whole answer; the sense is cleared.
-fn tell(
-    head: &mut [u8; layout::HEAD_SIZE],
-    host: Host,
-    code: u8,
-    answer: &mut [u8],
-    count: usize,
-) -> Reply
+fn tell(head: &mut [u8], host: u8, code: u8, answer: &mut [u8], count: usize) -> Reply
+    requires head_long { head_size ≤ length head.old }
+    requires host_known { host ≤ hosts }
     requires code_len_bound { length (mode_whole head.old code) ≤ most }
     requires count_in_bounds { (count ≤ length (mode_whole head.old code)) × (count ≤ length answer.old) }
-    ensures { (elements : List ℕ) (rest : Rest) → ended result (lent head.new elements rest) answer.new ≡ outcome (lent head.old elements rest) answer.old (meaning head.old host.number code (Ok count)) }
+    ensures { (elements : List ℕ) (rest : Rest) → ended result (lent head.new elements rest) answer.new ≡ outcome (lent head.old elements rest) answer.old (meaning head.old host code (Ok count)) }
 {
     let mut bytes = [0u8; MOST];
     whole(&mut bytes, head, code);
     wire::copy(answer, &bytes[..count]);
-    tables::head::wipe(head, host.number);
+    tables::head::wipe(head, host);
     order::told(Status::Good, count as u32)
 }
 
 // MODE SENSE, from step 5 on: the bytes are counted before one is written, and house number 5 leaves all as it was.
-pub fn mode_sense(
-    head: &mut [u8; layout::HEAD_SIZE],
-    host: Host,
-    block: &[u8; 6],
-    answer: &mut [u8],
-) -> Reply
-    requires { no_answer head.old block.now ≡ false }
-    ensures { (elements : List ℕ) (rest : Rest) → ended result (lent head.new elements rest) answer.new ≡ outcome (lent head.old elements rest) answer.old (fits answer.old (mode_sense (lent head.old elements rest) host.number block.now)) }
+pub fn mode_sense(head: &mut [u8], host: u8, block: &[u8; 6], answer: &mut [u8]) -> Reply
+    requires head_long { head_size ≤ length head.old }
+    requires host_known { host ≤ hosts }
+    requires answered { no_answer head.old block.now ≡ false }
+    ensures { (elements : List ℕ) (rest : Rest) → ended result (lent head.new elements rest) answer.new ≡ outcome (lent head.old elements rest) answer.old (fits answer.old (mode_sense (lent head.old elements rest) host block.now)) }
 {
     let code = page_code(block);
     match judge(head, code, block[4], answer.len()) {

@@ -3,7 +3,7 @@
 
 ghost use Rattle.std.specs.Prelude.{◌≡◌, List, ℕ, ◌+◌, ◌-◌, ◌<◌, ◌≤◌, length, IfOk};
 ghost use Rattle.rules.specs.Bytes.{word};
-ghost use Rattle.rules.specs.Tables.{most_elements, places, holder, panel, shown, lent, Rest};
+ghost use Rattle.rules.specs.Tables.{head_size, most_elements, places, holder, panel, shown, lent, Rest};
 ghost use Rattle.rules.specs.Order.{outcome, other};
 ghost use Rattle.order.specs.Ending.{ended};
 ghost use Rattle.tables.specs.Ranges.{laid};
@@ -42,7 +42,7 @@ pub enum Carriage {
 // What a command is judged by: the tables that it reads, its host and its block.
 #[derive(Clone, Copy)]
 struct Asked<'a> {
-    head: &'a [u8; layout::HEAD_SIZE],
+    head: &'a [u8],
     elements: &'a [u8],
     generations: &'a [u8],
     masks: &'a [u8],
@@ -73,6 +73,7 @@ impl<'a> Asked<'a> {
     // "when a drive can't take a cartridge's generation": the element at an address is by its type a drive, and does not take a volume.
     #[tactic(auto, unfolding(crate::specs::Judged::unfit_at, rules::specs::Choice::all_of, rules::specs::Choice::when, rules::specs::Roster::range))]
     fn unfit(self, kind: u8, address: u16, volume: u16) -> bool
+        requires head_long { head_size ≤ length self.head.now }
         ensures { result ≡ unfit_at self.entry.head.now self.entry.generations.now self.entry.masks.now kind address volume }
     {
         if kind != layout::DRIVE {
@@ -87,6 +88,7 @@ impl<'a> Asked<'a> {
     // MOVE, steps 6 to 8, and what stands behind them: the transport's place, the source, the destination.
     #[tactic(auto, unfolding(crate::specs::Judged::move_at, rules::specs::Choice::when, rules::specs::Choice::differ, rules::specs::Tables::places))]
     fn move_at(self, arm: usize, from: Spot, to: Spot) -> Result<Carriage, Refusal>
+        requires head_long { head_size ≤ length self.head.now }
         requires arm_bound { arm < places self.elements.now }
         requires place_bound { from.place < places self.elements.now }
         requires place_bound_2 { to.place < places self.elements.now }
@@ -112,14 +114,18 @@ impl<'a> Asked<'a> {
     // MOVE from step 5 on, from the transport's place on: "4-5 source, 6-7 destination", which "must be elements and no transport".
     #[tactic(auto, unfolding(crate::specs::Judged::move_spots, crate::specs::Judged::on_place, rules::specs::Choice::when, tables::specs::LookUp::spot_of))]
     fn move_spots(self, runs: [Range; 4], arm: usize) -> Result<Carriage, Refusal>
+        requires head_long { head_size ≤ length self.head.now }
         requires runs_len { length (laid runs) ≡ places self.elements.now }
         requires arm_bound { arm < places self.elements.now }
         ensures value { result ≡ asked (move_spots (laid runs)) self.entry arm }
         ensures within { IfOk result (Within (places self.entry.elements.now)) }
     {
         let from = tables::spot_of(runs, self.address(4) as u32);
+        if from.kind <= layout::TRANSPORT {
+            return Err(Refusal::For(Cause::WrongAddress));
+        }
         let to = tables::spot_of(runs, self.address(6) as u32);
-        if from.kind <= layout::TRANSPORT || to.kind <= layout::TRANSPORT {
+        if to.kind <= layout::TRANSPORT {
             return Err(Refusal::For(Cause::WrongAddress));
         }
         self.move_at(arm, from, to)
@@ -157,6 +163,7 @@ impl<'a> Asked<'a> {
         second: Spot,
         same: bool,
     ) -> Result<Carriage, Refusal>
+        requires head_long { head_size ≤ length self.head.now }
         requires arm_bound { arm < places self.elements.now }
         requires place_bound { from.place < places self.elements.now }
         requires place_bound_2 { first.place < places self.elements.now }
@@ -192,6 +199,7 @@ impl<'a> Asked<'a> {
     // EXCHANGE from step 5 on, from the transport's place on: "4-5 source, 6-7 first destination, 8-9 second"
     #[tactic(auto, unfolding(crate::specs::Judged::exchange_spots, crate::specs::Judged::on_place, rules::specs::Choice::when, tables::specs::LookUp::spot_of))]
     fn exchange_spots(self, runs: [Range; 4], arm: usize) -> Result<Carriage, Refusal>
+        requires head_long { head_size ≤ length self.head.now }
         requires runs_len { length (laid runs) ≡ places self.elements.now }
         requires arm_bound { arm < places self.elements.now }
         ensures value { result ≡ asked (exchange_spots (laid runs)) self.entry arm }
@@ -201,13 +209,15 @@ impl<'a> Asked<'a> {
         let nearer = self.address(6);
         let farther = self.address(8);
         let from = tables::spot_of(runs, source as u32);
+        if from.kind <= layout::TRANSPORT {
+            return Err(Refusal::For(Cause::WrongAddress));
+        }
         let first = tables::spot_of(runs, nearer as u32);
+        if first.kind <= layout::TRANSPORT {
+            return Err(Refusal::For(Cause::WrongAddress));
+        }
         let second = tables::spot_of(runs, farther as u32);
-        if from.kind <= layout::TRANSPORT
-            || first.kind <= layout::TRANSPORT
-            || second.kind <= layout::TRANSPORT
-            || nearer == source
-        {
+        if second.kind <= layout::TRANSPORT || nearer == source {
             return Err(Refusal::For(Cause::WrongAddress));
         }
         self.exchange_at(arm, from, first, second, farther == source)
@@ -215,7 +225,8 @@ impl<'a> Asked<'a> {
 
     // From step 5 on: "bytes 2-3 transport", and behind it the places of a MOVE or an EXCHANGE.
     fn judge(self, carry: Carry, runs: [Range; 4]) -> Result<Carriage, Refusal>
-        requires { length (laid runs) ≡ places self.elements.now }
+        requires head_long { head_size ≤ length self.head.now }
+        requires runs_len { length (laid runs) ≡ places self.elements.now }
         ensures value { result ≡ asked (judged_by carry (laid runs)) self.entry }
         ensures within { IfOk result (Within (places self.entry.elements.now)) }
     {
@@ -300,7 +311,8 @@ fn shelf(kind: u8) -> u16
 }
 
 // "Every move, exchange .. keeps it true": one more shelf is empty where one was left, one fewer where one was filled. Nothing is counted again.
-fn recount(head: &mut [u8; layout::HEAD_SIZE], left: u8, filled: u8)
+fn recount(head: &mut [u8], left: u8, filled: u8)
+    requires head_long { head_size ≤ length head.old }
     requires head_bound { panel head.old ≤ most_elements }
     requires filled_bound { shelf filled ≤ panel head.old + shelf left }
     ensures { head.new ≡ shown head.old (panel head.old + shelf left - shelf filled) }
@@ -311,13 +323,14 @@ fn recount(head: &mut [u8; layout::HEAD_SIZE], left: u8, filled: u8)
 
 // Carries out what was judged.
 fn carry_out(
-    head: &mut [u8; layout::HEAD_SIZE],
+    head: &mut [u8],
     elements: &mut [u8],
     host: Host,
     block: &[u8; 12],
     carriage: Carriage,
 ) -> Reply
-    requires { Able head.old elements.old block.now carriage }
+    requires head_long { head_size ≤ length head.old }
+    requires able { Able head.old elements.old block.now carriage }
     ensures { (rest : Rest) (buffer : List ℕ) → ended result (lent head.new elements.new rest) buffer ≡ outcome (lent head.old elements.old rest) buffer (carries elements.old host.number block.now carriage) }
 {
     match carriage {
@@ -336,7 +349,7 @@ fn carry_out(
             recount(head, from.kind, second.kind);
         }
     }
-    order::good(head, host)
+    order::good(head, host.number)
 }
 
 // MOVE MEDIUM or EXCHANGE MEDIUM from step 5 on. They have one way through, so that each function above has one caller and the compiler puts it in place: what is
@@ -344,14 +357,15 @@ fn carry_out(
 pub fn medium(
     carry: Carry,
     runs: [Range; 4],
-    head: &mut [u8; layout::HEAD_SIZE],
+    head: &mut [u8],
     elements: &mut [u8],
     generations: &[u8],
     masks: &[u8],
     host: Host,
     block: &[u8; 12],
 ) -> Reply
-    requires { Ready runs head.old elements.old }
+    requires head_long { head_size ≤ length head.old }
+    requires ready { Ready runs head.old elements.old }
     ensures { (rest : Rest) (buffer : List ℕ) → rest.generations ≡ generations.now → rest.masks ≡ masks.now → ended result (lent head.new elements.new rest) buffer ≡ outcome (lent head.old elements.old rest) buffer (carry_verdict carry (lent head.old elements.old rest) host.number block.now) }
 {
     let asked = Asked {
@@ -364,6 +378,6 @@ pub fn medium(
     };
     match asked.judge(carry, runs) {
         Ok(carriage) => carry_out(head, elements, host, block, carriage),
-        Err(why) => order::refused(head, host, why),
+        Err(why) => order::refused(head, host.number, why),
     }
 }

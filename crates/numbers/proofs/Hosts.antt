@@ -17,3 +17,5 @@ below-low low high n h = rw (lt-leb low n h)
 pub above_high : (low high n : ℕ) → low ≤ n → high < n → within low high n ≡ false
 unfolding within all_of when
 above_high low high n h k = rw (le-leb low n h, lt-leb n high k)
+
+pub ruleset hosts_by = (in-both, below-low, above_high)

@@ -11,6 +11,7 @@ use operation::Operation;
 use tables::Host;
 
 // "host not 1 to 8"
+#[tactic(auto, using(crate::proofs::Hosts::hosts_by))]
 pub fn host_of(number: u32) -> Option<Host>
     ensures { MatchOption result (within 1 hosts number ≡ false) (λ host. (within 1 hosts number ≡ true) × (host.number ≡ number)) }
 {

@@ -1,14 +1,12 @@
 // What every command shares: the reply, the three statuses, the house numbers, the causes of a refusal, and what other hosts hold.
 #![tactic(auto)]
 
-ghost use Rattle.std.specs.Prelude.{◌≡◌, List, [], ℕ};
-ghost use Rattle.rules.specs.Tables.{lent, Rest};
+ghost use Rattle.std.specs.Prelude.{◌≡◌, ◌≤◌, List, [], ℕ, length};
+ghost use Rattle.rules.specs.Tables.{head_size, hosts, lent, Rest};
 ghost use Rattle.rules.specs.Order.{outcome, refused, other as otherThan, good as goodVerdict, check as checkVerdict, conflict as conflictVerdict};
 ghost use Rattle.order.specs.Ending.{ended, code, bare, numbered as numberedOf, told as told_of, reason, verdict};
 ghost use Rattle.order.specs.declared.Refusal.TheVariants.{For};
 ghost use Rattle.order.specs.Holders.{any_other};
-
-use tables::Host;
 
 // "GOOD is 00h, CHECK CONDITION 02h, RESERVATION CONFLICT 18h."
 #[derive(Clone, Copy, PartialEq, Eq)]
@@ -156,24 +154,30 @@ pub fn any_other(elements: &[u8], host: u8) -> bool
 }
 
 // "first clears its host's sense": GOOD, with nothing else changed.
-pub fn good(head: &mut [u8; layout::HEAD_SIZE], host: Host) -> Reply
-    ensures { (elements : List ℕ) (rest : Rest) (buffer : List ℕ) → ended result (lent head.new elements rest) buffer ≡ outcome (lent head.old elements rest) buffer (goodVerdict host.number []) }
+pub fn good(head: &mut [u8], host: u8) -> Reply
+    requires head_long { head_size ≤ length head.old }
+    requires host_known { host ≤ hosts }
+    ensures { (elements : List ℕ) (rest : Rest) (buffer : List ℕ) → ended result (lent head.new elements rest) buffer ≡ outcome (lent head.old elements rest) buffer (goodVerdict host []) }
 {
-    tables::head::wipe(head, host.number);
+    tables::head::wipe(head, host);
     told(Status::Good, 0)
 }
 
 // CHECK CONDITION with key 5: "then stores the new one"
-fn check(head: &mut [u8; layout::HEAD_SIZE], host: Host, asc: u8, ascq: u8) -> Reply
-    ensures { (elements : List ℕ) (rest : Rest) (buffer : List ℕ) → ended result (lent head.new elements rest) buffer ≡ outcome (lent head.old elements rest) buffer (checkVerdict host.number 5 asc ascq) }
+fn check(head: &mut [u8], host: u8, asc: u8, ascq: u8) -> Reply
+    requires head_long { head_size ≤ length head.old }
+    requires host_known { host ≤ hosts }
+    ensures { (elements : List ℕ) (rest : Rest) (buffer : List ℕ) → ended result (lent head.new elements rest) buffer ≡ outcome (lent head.old elements rest) buffer (checkVerdict host 5 asc ascq) }
 {
-    tables::head::note(head, host.number, ILLEGAL_REQUEST, asc, ascq);
+    tables::head::note(head, host, ILLEGAL_REQUEST, asc, ascq);
     told(Status::CheckCondition, 0)
 }
 
 // Refused with key 5 and the cause's ASC and ASCQ.
-pub fn refuse(head: &mut [u8; layout::HEAD_SIZE], host: Host, cause: Cause) -> Reply
-    ensures { (elements : List ℕ) (rest : Rest) (buffer : List ℕ) → ended result (lent head.new elements rest) buffer ≡ outcome (lent head.old elements rest) buffer (refused host.number (reason cause)) }
+pub fn refuse(head: &mut [u8], host: u8, cause: Cause) -> Reply
+    requires head_long { head_size ≤ length head.old }
+    requires host_known { host ≤ hosts }
+    ensures { (elements : List ℕ) (rest : Rest) (buffer : List ℕ) → ended result (lent head.new elements rest) buffer ≡ outcome (lent head.old elements rest) buffer (refused host (reason cause)) }
 {
     match cause {
         Cause::InvalidOperation => check(head, host, 0x20, 0x00),
@@ -188,17 +192,21 @@ pub fn refuse(head: &mut [u8; layout::HEAD_SIZE], host: Host, cause: Cause) -> R
 }
 
 // RESERVATION CONFLICT: the sense is cleared, none is stored.
-pub fn conflict(head: &mut [u8; layout::HEAD_SIZE], host: Host) -> Reply
-    ensures { (elements : List ℕ) (rest : Rest) (buffer : List ℕ) → ended result (lent head.new elements rest) buffer ≡ outcome (lent head.old elements rest) buffer (conflictVerdict host.number) }
+pub fn conflict(head: &mut [u8], host: u8) -> Reply
+    requires head_long { head_size ≤ length head.old }
+    requires host_known { host ≤ hosts }
+    ensures { (elements : List ℕ) (rest : Rest) (buffer : List ℕ) → ended result (lent head.new elements rest) buffer ≡ outcome (lent head.old elements rest) buffer (conflictVerdict host) }
 {
-    tables::head::wipe(head, host.number);
+    tables::head::wipe(head, host);
     told(Status::ReservationConflict, 0)
 }
 
 // Not carried out, for either reason.
 #[tactic(auto, unfolding(crate::specs::Ending::verdict))]
-pub fn refused(head: &mut [u8; layout::HEAD_SIZE], host: Host, why: Refusal) -> Reply
-    ensures { (elements : List ℕ) (rest : Rest) (buffer : List ℕ) → ended result (lent head.new elements rest) buffer ≡ outcome (lent head.old elements rest) buffer (verdict host.number why) }
+pub fn refused(head: &mut [u8], host: u8, why: Refusal) -> Reply
+    requires head_long { head_size ≤ length head.old }
+    requires host_known { host ≤ hosts }
+    ensures { (elements : List ℕ) (rest : Rest) (buffer : List ℕ) → ended result (lent head.new elements rest) buffer ≡ outcome (lent head.old elements rest) buffer (verdict host why) }
 {
     match why {
         Refusal::For(cause) => refuse(head, host, cause),

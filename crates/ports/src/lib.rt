@@ -1,8 +1,8 @@
 // Import and export judged by reading only, for sound tables: house numbers 6 to 9.
 #![tactic(auto)]
 
-ghost use Rattle.std.specs.Prelude.{◌≡◌, true, List, ℕ};
-ghost use Rattle.rules.specs.Tables.{places, mask, lent, Rest};
+ghost use Rattle.std.specs.Prelude.{◌≡◌, ◌≤◌, true, List, ℕ, length};
+ghost use Rattle.rules.specs.Tables.{head_size, places, mask, lent, Rest};
 ghost use Rattle.rules.specs.Sound.{sound};
 ghost use Rattle.rules.specs.Events.{present as presentIn, wrong_volume, importing, exporting};
 ghost use Rattle.tables.specs.Ranges.{laid};
@@ -33,7 +33,8 @@ fn prevented(mask: u8) -> House
 }
 
 // The place of an import/export element that no host keeps shut: numbers 6 and 7.
-fn open_port(runs: [Range; 4], head: &[u8; layout::HEAD_SIZE], address: u32) -> Result<usize, House>
+fn open_port(runs: [Range; 4], head: &[u8], address: u32) -> Result<usize, House>
+    requires head_long { head_size ≤ length head.now }
     ensures { result ≡ port_by (found Port (laid runs) address) (mask head.now) }
 {
     let Some(place) = tables::find(runs, address, Types::Port) else {
@@ -74,13 +75,14 @@ fn wrong_volume(elements: &[u8], tags: &[u8], volume: u32) -> bool
 // Import, judged by reading only: numbers 6 to 9 in this order.
 pub fn judge_import(
     runs: [Range; 4],
-    head: &[u8; layout::HEAD_SIZE],
+    head: &[u8],
     elements: &[u8],
     tags: &[u8],
     address: u32,
     volume: u32,
 ) -> Result<Fill, House>
-    requires { Importable runs head.now elements.now tags.now }
+    requires head_long { head_size ≤ length head.now }
+    requires importable { Importable runs head.now elements.now tags.now }
     ensures result_value { (rest : Rest) → rest.tags ≡ tags.now → sound (lent head.now elements.now rest) ≡ true → meaning result ≡ importing (lent head.now elements.now rest) address volume }
     ensures within { Within (places elements.now) result }
 {
@@ -101,11 +103,12 @@ pub fn judge_import(
 // Export, judged by reading only: numbers 6 to 8 in this order.
 pub fn judge_export(
     runs: [Range; 4],
-    head: &[u8; layout::HEAD_SIZE],
+    head: &[u8],
     elements: &[u8],
     address: u32,
 ) -> Result<Fill, House>
-    requires { Ported runs head.now elements.now }
+    requires head_long { head_size ≤ length head.now }
+    requires ported { Ported runs head.now elements.now }
     ensures result_value { (rest : Rest) → sound (lent head.now elements.now rest) ≡ true → meaning result ≡ exporting (lent head.now elements.now rest) address }
     ensures within { Within (places elements.now) result }
 {

@@ -4,7 +4,7 @@
 ghost use Rattle.std.specs.Prelude.{◌≡◌, List, [], ◌∷◌, ℕ, ◌*◌, ◌-◌, ◌≤◌, length, eqb};
 ghost use Rattle.rules.specs.Choice.{each, any_of, below};
 ghost use Rattle.rules.specs.Bytes.{put, three};
-ghost use Rattle.rules.specs.Tables.{Tables, Rest, lent, searching, element_at, tag_size, template_size, behind_last, next_at};
+ghost use Rattle.rules.specs.Tables.{head_size, hosts, Tables, Rest, lent, searching, element_at, tag_size, template_size, behind_last, next_at};
 ghost use Rattle.rules.specs.Roster.{spread};
 ghost use Rattle.rules.specs.Order.{outcome};
 ghost use Rattle.rules.specs.Search.{ANY-CHARACTER, reserved_tags, search_for, send_tag, no_search, agrees_from, in_range, label_matches};
@@ -13,7 +13,7 @@ ghost use Rattle.order.specs.Ending.{ended};
 ghost use Rattle.search.specs.Marks.{Marked, Sought, AllLabelled, Searchable, asks, goes, Cared, volume_fits, looks_for, slot, marked_at, RunMarked, RunSearchable};
 
 use order::{Cause, Reply};
-use tables::{Host, Range};
+use tables::Range;
 
 // "'*' will match any string of characters"; "'?' will match any single character"
 const ANY_STRING: u8 = b'*';
@@ -301,13 +301,15 @@ fn begin(
 
 // From step 5 on: "other than 40 is 5/1A/00"
 pub fn send_volume_tag(
-    head: &mut [u8; layout::HEAD_SIZE],
+    head: &mut [u8],
     search: &mut [u8; layout::SEARCH_SIZE],
-    host: Host,
+    host: u8,
     block: &[u8; 12],
     list: &[u8],
 ) -> Reply
-    ensures { (elements : List ℕ) (rest : Rest) (buffer : List ℕ) → ended result (lent head.new elements (searching rest search.new)) buffer ≡ outcome (lent head.old elements (searching rest search.old)) buffer (send_tag (lent head.old elements (searching rest search.old)) host.number block.now list.now) }
+    requires head_long { head_size ≤ length head.old }
+    requires host_known { host ≤ hosts }
+    ensures { (elements : List ℕ) (rest : Rest) (buffer : List ℕ) → ended result (lent head.new elements (searching rest search.new)) buffer ≡ outcome (lent head.old elements (searching rest search.old)) buffer (send_tag (lent head.old elements (searching rest search.old)) host block.now list.now) }
 {
     if list.len() != layout::TAG_LIST_SIZE {
         return order::refuse(head, host, Cause::ListLength);

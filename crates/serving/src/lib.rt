@@ -13,7 +13,7 @@ use events::Event;
 use order::{House, Reply};
 use tables::Fixed;
 
-// Any command: house numbers 1 to 4, then the steps, with number 5 among their replies. The head and the search of sound tables have their lengths.
+// Any command: house numbers 1 to 4, then the steps, with number 5 among their replies. The search of sound tables has its length.
 pub fn command(
     head: &mut [u8],
     elements: &mut [u8],
@@ -42,7 +42,7 @@ pub fn command(
     steps::steps(
         op,
         runs,
-        head.as_mut_array().unwrap(),
+        head,
         elements,
         fixed,
         search.as_mut_array().unwrap(),
@@ -67,7 +67,7 @@ pub fn event(
         None => order::numbered(House::UnsoundTables),
         Some(runs) => events::occur(
             runs,
-            head.as_mut_array().unwrap(),
+            head,
             elements,
             fixed.tags,
             search.as_mut_array().unwrap(),

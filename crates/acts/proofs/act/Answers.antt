@@ -56,29 +56,29 @@ pub whole-requires-in-RequestVolumeElementAddress : goal.whole-requires-in-Reque
 unfolding meaning
 whole-requires-in-RequestVolumeElementAddress c = (omega arith, sized _ _ _ c.requires.served.fitting c.in-RequestVolumeElementAddress.is)
 
-pub reserve-requires : goal.reserve-requires
+pub reserve-requires-clause-reservable : goal.reserve-requires-clause-reservable
 unfolding meaning
-reserve-requires c = let s = c.requires.served.suited.ready-to-move in record { runs-are = s.runs-are; elements-long = s.records; few = s.few }
+reserve-requires-clause-reservable c = let s = c.requires.served.suited.ready-to-move in record { runs-are = s.runs-are; elements-long = s.records; few = s.few }
 
-pub medium-requires : goal.medium-requires
+pub medium-requires-clause-ready : goal.medium-requires-clause-ready
 unfolding meaning
-medium-requires c = c.requires.served.suited.ready-to-move
+medium-requires-clause-ready c = c.requires.served.suited.ready-to-move
 
-pub medium-requires-in-ExchangeMedium : goal.medium-requires-in-ExchangeMedium
+pub medium-requires-in-ExchangeMedium-clause-ready : goal.medium-requires-in-ExchangeMedium-clause-ready
 unfolding meaning
-medium-requires-in-ExchangeMedium c = c.requires.served.suited.ready-to-move
+medium-requires-in-ExchangeMedium-clause-ready c = c.requires.served.suited.ready-to-move
 
-pub read_element_status-requires : goal.read_element_status-requires
+pub read_element_status-requires-clause-readable : goal.read_element_status-requires-clause-readable
 unfolding meaning
-read_element_status-requires c = c.requires.served.suited.ready-to-list
+read_element_status-requires-clause-readable c = c.requires.served.suited.ready-to-list
 
-pub mode_sense-requires : goal.mode_sense-requires
+pub mode_sense-requires-clause-answered : goal.mode_sense-requires-clause-answered
 unfolding meaning
-mode_sense-requires c = rw c.whole-in-ModeSense.ensures (answered _ _ _ (rw c.in-ModeSense.is at c.requires.no_fault))
+mode_sense-requires-clause-answered c = rw c.whole-in-ModeSense.ensures (answered _ _ _ (rw c.in-ModeSense.is at c.requires.no_fault))
 
-pub request_volume_element_address-requires : goal.request_volume_element_address-requires
+pub request_volume_element_address-requires-clause-findable : goal.request_volume_element_address-requires-clause-findable
 unfolding meaning
-request_volume_element_address-requires c = findable _ _ _ _ _ c.requires.served.suited
+request_volume_element_address-requires-clause-findable c = findable _ _ _ _ _ c.requires.served.suited
 
 pub returns-in-TestUnitReady : goal.returns-in-TestUnitReady
 unfolding act meaning

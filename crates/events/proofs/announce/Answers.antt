@@ -8,7 +8,10 @@ pub loop-number-init : goal.loop-number-init
 loop-number-init c = turned_none _ 1 _
 
 pub loop-number-preserved : goal.loop-number-preserved
-loop-number-preserved c = turned_more _ 1 _ _ _ c.loop-number.invariant _ c.announce_to.ensures (omega (arith, c.loop-number.invariant.kept, c.announce_to.array_long))
+loop-number-preserved c = turned_more _ 1 _ _ _ c.loop-number.invariant _ c.announce_to.ensures c.announce_to.auto.head
+
+pub shape_of-head : goal.shape_of-head
+shape_of-head c = c.loop-number.invariant.kept
 
 pub returns : goal.returns
 unfolding announced

@@ -10,7 +10,7 @@ use Rattle.events.proofs.carry_out.Goals as goal
 
 pub fill-requires : goal.fill-requires
 unfolding places
-fill-requires c = let w = rw c.in-Ok.is at c.requires in omega arith
+fill-requires c = let w = rw c.in-Ok.is at c.requires.within in omega arith
 
 pub returns-in-Ok : goal.returns-in-Ok
 unfolding meaning outcome done changes change in_head in_elements put

@@ -10,12 +10,12 @@ use Rattle.finding.proofs.request_volume_element_address.Goals as goal
 
 pub mark_found-requires : goal.mark_found-requires
 mark_found-requires c =
-    let s = c.requires in
+    let s = c.requires.findable in
     fresh _ _ _ s.reads.listable.stands s.reads.listable.labels.volumes s.few
 
 pub list-told-requires : goal.list-told-requires
 list-told-requires c =
-    let s = c.requires in
+    let s = c.requires.findable in
     record { near = rw c.limits_of-limits.ensures s.near; listable = s.reads.listable }
 
 pub put_next-requires : goal.put_next-requires
@@ -23,7 +23,7 @@ put_next-requires c = c.list-told.ensures.next_value.1
 
 pub returns-in-Ok : goal.returns-in-Ok
 returns-in-Ok c = λ rest lends.
-    let s = c.requires in
+    let s = c.requires.findable in
     let answered = rw (c.query_of-q.ensures, c.limits_of-limits.ensures, c.in-Ok.is) at c.list-told.ensures.answers in
     rw c.told.ensures
     (ends-good (lent _ _ (searching rest _)) _ _ _ s.reads.runs-are (λ e. omega (arith, e, length-replicate {A = ℕ} 512 0))
@@ -33,7 +33,7 @@ returns-in-Ok c = λ rest lends.
 
 pub returns-in-Err : goal.returns-in-Err
 returns-in-Err c = λ rest lends.
-    let s = c.requires in
+    let s = c.requires.findable in
     let answered = rw (c.query_of-q.ensures, c.limits_of-limits.ensures, c.in-Err.is) at c.list-told.ensures.answers in
     rw c.numbered.ensures
     (ends-refused (lent _ _ (searching rest _)) _ _ _ s.reads.runs-are (λ e. omega (arith, e, length-replicate {A = ℕ} 512 0))

@@ -10,19 +10,19 @@ use Rattle.form.proofs.own_fault.Goals as goal
 
 pub whole-requires : goal.whole-requires
 unfolding meaning
-whole-requires c = let e : length c.args.block.now ≡ 6 = sized _ _ _ c.requires c.in-Reserve.is in search rules
+whole-requires c = let e : length c.args.block.now ≡ 6 = sized _ _ _ c.requires.fitting c.in-Reserve.is in search rules
 
 pub whole-requires-in-ReadElementStatus : goal.whole-requires-in-ReadElementStatus
 unfolding meaning
-whole-requires-in-ReadElementStatus c = elim c.in-ReadElementStatus.is [ inl e ↦ (let x : length c.args.block.now ≡ 12 = sized _ _ _ c.requires e in search rules) | inr e ↦ (let x : length c.args.block.now ≡ 12 = sized _ _ _ c.requires e in search rules) ]
+whole-requires-in-ReadElementStatus c = elim c.in-ReadElementStatus.is [ inl e ↦ (let x : length c.args.block.now ≡ 12 = sized _ _ _ c.requires.fitting e in search rules) | inr e ↦ (let x : length c.args.block.now ≡ 12 = sized _ _ _ c.requires.fitting e in search rules) ]
 
 pub whole-requires-in-ModeSense : goal.whole-requires-in-ModeSense
 unfolding meaning
-whole-requires-in-ModeSense c = let e : length c.args.block.now ≡ 6 = sized _ _ _ c.requires c.in-ModeSense.is in search rules
+whole-requires-in-ModeSense c = let e : length c.args.block.now ≡ 6 = sized _ _ _ c.requires.fitting c.in-ModeSense.is in search rules
 
 pub whole-whole-requires : goal.whole-whole-requires
 unfolding meaning
-whole-whole-requires c = let e : length c.args.block.now ≡ 12 = sized _ _ _ c.requires c.in-SendVolumeTag.is in search rules
+whole-whole-requires c = let e : length c.args.block.now ≡ 12 = sized _ _ _ c.requires.fitting c.in-SendVolumeTag.is in search rules
 
 pub returns-in-Reserve : goal.returns-in-Reserve
 unfolding own_fault meaning

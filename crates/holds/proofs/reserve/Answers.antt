@@ -9,12 +9,12 @@ unfolding byte
 returns-then-block-eq0 c rest buffer =
     ends_as _ buffer (c.reserve_unit.ensures rest buffer) (reserves-unit _ _ _ _ c.if-block-eq0.true)
 
-pub reserve_elements-requires : goal.reserve_elements-requires
-reserve_elements-requires c =
-    lays-out _ _ _ c.requires
+pub reserve_elements-requires-clause-laid_out : goal.reserve_elements-requires-clause-laid_out
+reserve_elements-requires-clause-laid_out c =
+    lays-out _ _ _ c.requires.reservable
 
 pub returns : goal.returns
 unfolding byte
 returns c rest buffer =
     ends_as _ buffer (c.reserve_elements.ensures rest buffer)
-    (reserves-elements _ _ _ _ c.if-block-eq0.false _ (same-roster _ _ _ c.requires))
+    (reserves-elements _ _ _ _ c.if-block-eq0.false _ (same-roster _ _ _ c.requires.reservable))

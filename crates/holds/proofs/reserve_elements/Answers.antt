@@ -13,14 +13,14 @@ judge_elements-requires-clause-marks c = marks_begin _ _
 
 pub grant-requires : goal.grant-requires
 unfolding places
-grant-requires c = omega (arith, c.requires.elements-long, c.requires.few)
+grant-requires c = omega (arith, c.requires.laid_out.elements-long, c.requires.laid_out.few)
 
 pub returns-in-Ok : goal.returns-in-Ok
 unfolding meaning places
 returns-in-Ok c rest buffer =
     let told = c.in-Ok.ensures in
     good-with _ _ _ _ rest buffer _ (c.good.ensures _ rest buffer) _ _ _ _ (ap (meaning _ _ _ _) told.value)
-    (grant-ends _ _ _ _ _ rest _ _ _ told.grantable (omega (arith, c.requires.elements-long)) (omega (arith, c.requires.elements-long, c.requires.few)) c.grant.ensures)
+    (grant-ends _ _ _ _ _ rest _ _ _ told.grantable (omega (arith, c.requires.laid_out.elements-long)) (omega (arith, c.requires.laid_out.elements-long, c.requires.laid_out.few)) c.grant.ensures)
 
 pub returns-in-Err : goal.returns-in-Err
 unfolding meaning

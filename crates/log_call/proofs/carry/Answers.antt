@@ -12,8 +12,8 @@ pub returns-then-host-ne0 : goal.returns-then-host-ne0
 returns-then-host-ne0 c =
     λ rest e g s. of-command (lent _ _ _) _ _ _ e c.if-host-ne0.true _ (c.obey.ensures rest g s)
 
-pub occur-requires : goal.occur-requires
-occur-requires c =
+pub occur-requires-clause-possible : goal.occur-requires-clause-possible
+occur-requires-clause-possible c =
     let k = c.requires in
     possible _ _ _ _ _ (importable _ _ _ _ k.rest k.given k.sound-now _ k.runs-are)
 

@@ -28,9 +28,9 @@ unfolding byte
 returns-then-not-parameters_fit c =
     λ rest g s. no-list _ _ _ _ s (rw c.from.ensures at c.in-Some.ensures.0) _ c.block_fits.ensures c.if-not-block_fits.false _ (fit_is _ _ c.decode-op.ensures _ _ c.parameters_fit.ensures) c.if-not-parameters_fit.true
 
-pub carry_out-requires : goal.carry_out-requires
+pub carry_out-requires-clause-recorded : goal.carry_out-requires-clause-recorded
 unfolding byte
-carry_out-requires c =
+carry_out-requires-clause-recorded c =
     let k = c.requires in
     record {
       ready = ready _ _ _ _ k.rest k.given k.sound-now _ k.runs-are;

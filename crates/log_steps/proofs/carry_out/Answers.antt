@@ -10,8 +10,8 @@ use Rattle.admission.proofs.Admissions.{is-pending}
 use Rattle.log_steps.proofs.Ends.{left_by, admits}
 use Rattle.log_steps.proofs.carry_out.Goals as goal
 
-pub report-requires : goal.report-requires
-report-requires c =
+pub report-requires-clause-attentive : goal.report-requires-clause-attentive
+report-requires-clause-attentive c =
     is-pending _ (lent _ _ bare) _ _ _ _ c.judge.ensures (c.in-Err-Pending.is ∙ ap Err c.in-Err-Pending.field-0-is)
 
 pub returns-in-Err-Pending : goal.returns-in-Err-Pending

@@ -13,40 +13,40 @@ use Rattle.log_steps.proofs.command.Goals as goal
 
 pub whole-requires : goal.whole-requires
 unfolding meaning
-whole-requires c = (lit< tt, sized _ _ _ c.requires.fitting c.in-Reserve.is)
+whole-requires c = (lit< tt, sized _ _ _ c.requires.recorded.fitting c.in-Reserve.is)
 
 pub whole-requires-in-Release : goal.whole-requires-in-Release
 unfolding meaning
-whole-requires-in-Release c = (lit< tt, sized _ _ _ c.requires.fitting c.in-Release.is)
+whole-requires-in-Release c = (lit< tt, sized _ _ _ c.requires.recorded.fitting c.in-Release.is)
 
 pub whole-requires-in-PreventAllow : goal.whole-requires-in-PreventAllow
 unfolding meaning
-whole-requires-in-PreventAllow c = (lit< tt, sized _ _ _ c.requires.fitting c.in-PreventAllow.is)
+whole-requires-in-PreventAllow c = (lit< tt, sized _ _ _ c.requires.recorded.fitting c.in-PreventAllow.is)
 
 pub whole-requires-in-MoveMedium : goal.whole-requires-in-MoveMedium
 unfolding meaning
-whole-requires-in-MoveMedium c = (lit< tt, sized _ _ _ c.requires.fitting c.in-MoveMedium.is)
+whole-requires-in-MoveMedium c = (lit< tt, sized _ _ _ c.requires.recorded.fitting c.in-MoveMedium.is)
 
 pub whole-requires-in-ExchangeMedium : goal.whole-requires-in-ExchangeMedium
 unfolding meaning
-whole-requires-in-ExchangeMedium c = (lit< tt, sized _ _ _ c.requires.fitting c.in-ExchangeMedium.is)
+whole-requires-in-ExchangeMedium c = (lit< tt, sized _ _ _ c.requires.recorded.fitting c.in-ExchangeMedium.is)
 
 pub whole-requires-in-SendVolumeTag : goal.whole-requires-in-SendVolumeTag
 unfolding meaning
-whole-requires-in-SendVolumeTag c = (lit< tt, sized _ _ _ c.requires.fitting c.in-SendVolumeTag.is)
+whole-requires-in-SendVolumeTag c = (lit< tt, sized _ _ _ c.requires.recorded.fitting c.in-SendVolumeTag.is)
 
 pub whole-requires-in-RequestVolumeElementAddress : goal.whole-requires-in-RequestVolumeElementAddress
 unfolding meaning
-whole-requires-in-RequestVolumeElementAddress c = (lit< tt, sized _ _ _ c.requires.fitting c.in-RequestVolumeElementAddress.is)
+whole-requires-in-RequestVolumeElementAddress c = (lit< tt, sized _ _ _ c.requires.recorded.fitting c.in-RequestVolumeElementAddress.is)
 
-pub reserve-requires : goal.reserve-requires
-reserve-requires c =
-    let r = c.requires.ready in
+pub reserve-requires-clause-reservable : goal.reserve-requires-clause-reservable
+reserve-requires-clause-reservable c =
+    let r = c.requires.recorded.ready in
     record { runs-are = r.runs-are; elements-long = r.records; few = r.few }
 
-pub go_on-requires : goal.go_on-requires
+pub go_on-requires-clause-countable : goal.go_on-requires-clause-countable
 unfolding meaning
-go_on-requires c = c.requires.counts (sized _ _ _ c.requires.fitting c.in-RequestVolumeElementAddress.is)
+go_on-requires-clause-countable c = c.requires.recorded.counts (sized _ _ _ c.requires.recorded.fitting c.in-RequestVolumeElementAddress.is)
 
 pub returns-in-TestUnitReady : goal.returns-in-TestUnitReady
 returns-in-TestUnitReady c =

@@ -11,7 +11,8 @@ use Rattle.mode.proofs.mode_sense.Goals as goal
 pub tell-requires : goal.tell-requires
 tell-requires c =
     let w = rw c.in-Ok.is at c.judge.ensures.within in
-    record { code_len_bound = rw c.page_code-code.ensures (no_more _ _ c.requires); count_in_bounds = w }
+    let pre = c.requires in
+    record { head_long = pre.head_long; host_known = pre.host_known; code_len_bound = rw c.page_code-code.ensures (no_more _ _ pre.answered); count_in_bounds = w }
 
 pub returns-in-Ok : goal.returns-in-Ok
 unfolding byte

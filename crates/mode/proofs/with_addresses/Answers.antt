@@ -8,7 +8,7 @@ use Rattle.mode.proofs.with_addresses.Goals as goal
 pub addresses-requires : goal.addresses-requires
 addresses-requires c =
     let e = bytes-sought _ _ 18 (sym c.sought.ensures ∙ c.if-sought.true) in
-    omega (arith, e, c.requires)
+    omega (arith, e, c.requires.room)
 
 pub returns-then-sought : goal.returns-then-sought
 returns-then-sought c =

@@ -11,9 +11,9 @@ returns c = λ rest buffer.
       | in-Move w ↦
           rw w.in-Move.is
           (moved_ends _ _ _ _ _ _ rest buffer _ _ known.0 known.1 c.good.ensures _ _ _ (w.elements-is ∙ w.carry_volume.ensures) (w.head-is ∙ w.recount.ensures)
-          (tally-move _ _ _ _ c.requires _ _ _ w.in-Move.is))
+          (tally-move _ _ _ _ c.requires.able _ _ _ w.in-Move.is))
       | in-Exchange w ↦
           rw w.in-Exchange.is
           (exchanged-ends _ _ _ _ _ _ rest buffer _ _ known.0 known.1 c.good.ensures _ _ _ _ _ (w.elements-is ∙ w.swap.ensures) (w.head-is ∙ w.recount-in-Exchange.ensures)
-          (tally-exchange _ _ _ _ c.requires _ _ _ _ _ w.in-Exchange.is))
+          (tally-exchange _ _ _ _ c.requires.able _ _ _ _ _ w.in-Exchange.is))
     ]

@@ -11,13 +11,15 @@ pub tell_attention-requires : goal.tell_attention-requires
 tell_attention-requires c =
     let told = c.in-Ok-Attention in
     let w = rw (told.is, told.field-0-is) at c.judge.ensures.within in
-    record { count_le_whole = w.0; count_in_bounds = w.1 }
+    let pre = c.requires in
+    record { head_long = pre.head_long; host_known = pre.host_known; count_le_whole = w.0; count_in_bounds = w.1 }
 
 pub tell_sense-requires : goal.tell_sense-requires
 tell_sense-requires c =
     let told = c.in-Ok-Sense in
     let w = rw (told.is, told.field-0-is) at c.judge.ensures.within in
-    record { count_le_whole = w.0; count_in_bounds = w.1 }
+    let pre = c.requires in
+    record { head_long = pre.head_long; host_known = pre.host_known; count_le_whole = w.0; count_in_bounds = w.1 }
 
 pub returns-in-Ok-Attention : goal.returns-in-Ok-Attention
 returns-in-Ok-Attention c = λ elements rest.

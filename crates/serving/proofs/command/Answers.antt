@@ -1,5 +1,6 @@
 -- `serving::command` meets its contract. Assumes nothing.
 use Rattle.std.proofs.Common.{rules}
+use native.Mathlib.Omega.{arith}
 use mathlib.Core.Path.{◌≡◌, refl, sym, ◌∙◌}
 use Rattle.rules.specs.Bytes.{byte}
 use Rattle.rules.specs.Tables.{lent}
@@ -53,17 +54,16 @@ returns-then-not-parameters_fit c =
     ∙ command-is _ _ _ _ _
 
 pub unwrap-requires : goal.unwrap-requires
-unwrap-requires c = c.as_mut_array.ensures.variant.1 (head-whole _ _ _ (sym c.in-Some.ensures.value))
+unwrap-requires c = c.as_mut_array.ensures.variant.1 (search-whole _ _ _ (sym c.in-Some.ensures.value))
 
-pub unwrap-requires-2 : goal.unwrap-requires-2
-unwrap-requires-2 c = c.as_mut_array-2.ensures.variant.1 (search-whole _ _ _ (sym c.in-Some.ensures.value))
+pub steps-requires-clause-head_long : goal.steps-requires-clause-head_long
+steps-requires-clause-head_long c = omega (arith, head-whole _ _ _ (sym c.in-Some.ensures.value))
 
-pub steps-requires : goal.steps-requires
+pub steps-requires-clause-served : goal.steps-requires-clause-served
 unfolding byte
-steps-requires c =
-    let h : c.unwrap.result.now ≡ c.args.head.now = search rules in
-    let k : c.unwrap-2.result.now ≡ c.args.search.now = search rules in
-    rw (h, k) (record {
+steps-requires-clause-served c =
+    let k : c.unwrap.result.now ≡ c.args.search.now = search rules in
+    rw k (record {
       suited = suited _ _ _ _ (sym c.in-Some.ensures.value) _ c.in-Some.ensures.runs;
       fitting = fitting _ _ c.decode-op.ensures (sym c.block_fits.ensures ∙ c.if-not-block_fits.false);
     })
@@ -71,9 +71,8 @@ steps-requires c =
 pub returns : goal.returns
 unfolding judge judged after_numbers byte
 returns c =
-    let h : c.unwrap.result.now ≡ c.args.head.now = search rules in
-    let k : c.unwrap-2.result.now ≡ c.args.search.now = search rules in
-    ends_as _ _ (rw (h, k, c.in-Some-host_of.ensures.1) at c.steps.ensures)
+    let k : c.unwrap.result.now ≡ c.args.search.now = search rules in
+    ends_as _ _ (rw (k, c.in-Some-host_of.ensures.1) at c.steps.ensures)
     (yes _ _ _ _ _ refl (sym c.in-Some.ensures.value)
     (yes _ _ _ _ _ refl c.in-Some-host_of.ensures.0
     (yes _ _ _ _ _ c.block_fits.ensures c.if-not-block_fits.false

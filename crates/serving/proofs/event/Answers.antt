@@ -1,5 +1,6 @@
 -- `serving::event` meets its contract. Assumes nothing.
 use Rattle.std.proofs.Common.{rules}
+use native.Mathlib.Omega.{arith}
 use mathlib.Core.Path.{◌≡◌, refl, sym, ◌∙◌}
 use Rattle.rules.specs.Tables.{lent}
 use Rattle.order.specs.Ending.{numbered}
@@ -14,18 +15,15 @@ unfolding numbered
 returns-in-None c = unsound-ends _ (lent _ _ _) _ c.numbered.ensures (sym c.in-None.ensures.value)
 
 pub unwrap-requires : goal.unwrap-requires
-unwrap-requires c = c.as_mut_array.ensures.variant.1 (head-whole _ _ _ (sym c.in-Some.ensures.value))
+unwrap-requires c = c.as_mut_array.ensures.variant.1 (search-whole _ _ _ (sym c.in-Some.ensures.value))
 
-pub unwrap-requires-in-Some : goal.unwrap-requires-in-Some
-unwrap-requires-in-Some c = c.as_mut_array-in-Some.ensures.variant.1 (search-whole _ _ _ (sym c.in-Some.ensures.value))
+pub occur-requires-clause-head_long : goal.occur-requires-clause-head_long
+occur-requires-clause-head_long c = omega (arith, head-whole _ _ _ (sym c.in-Some.ensures.value))
 
-pub occur-requires : goal.occur-requires
-occur-requires c =
-    let h : c.unwrap.result.now ≡ c.args.head.now = search rules in
-    rw h (possible _ _ _ _ _ (importable _ _ _ (sym c.in-Some.ensures.value) _ c.in-Some.ensures.runs))
+pub occur-requires-clause-possible : goal.occur-requires-clause-possible
+occur-requires-clause-possible c = possible _ _ _ _ _ (importable _ _ _ (sym c.in-Some.ensures.value) _ c.in-Some.ensures.runs)
 
 pub returns-in-Some : goal.returns-in-Some
 returns-in-Some c =
-    let h : c.unwrap.result.now ≡ c.args.head.now = search rules in
-    let k : c.unwrap-in-Some.result.now ≡ c.args.search.now = search rules in
-    (rw (h, k) at c.occur.ensures (rest_of c.args.fixed c.args.search.now) refl) (sym c.in-Some.ensures.value) ∙ happened-is _ _
+    let k : c.unwrap.result.now ≡ c.args.search.now = search rules in
+    (rw k at c.occur.ensures (rest_of c.args.fixed c.args.search.now) refl) (sym c.in-Some.ensures.value) ∙ happened-is _ _

@@ -10,10 +10,10 @@ unfolding judged_by
 returns-in_default-clause-value c = at-no _ _ _ _ _ (arm-by _ _ _ _ _ _ c.arm_of.ensures c.address.ensures) c.in_default.is refl
 
 pub move_spots-requires-clause-arm_bound : goal.move_spots-requires-clause-arm_bound
-move_spots-requires-clause-arm_bound c = at-record _ _ _ _ _ _ c.requires c.arm_of.ensures c.in-Some.is
+move_spots-requires-clause-arm_bound c = at-record _ _ _ _ _ _ c.requires.runs_len c.arm_of.ensures c.in-Some.is
 
 pub exchange_spots-requires-clause-arm_bound : goal.exchange_spots-requires-clause-arm_bound
-exchange_spots-requires-clause-arm_bound c = at-record _ _ _ _ _ _ c.requires c.arm_of.ensures c.in-Some.is
+exchange_spots-requires-clause-arm_bound c = at-record _ _ _ _ _ _ c.requires.runs_len c.arm_of.ensures c.in-Some.is
 
 pub returns-in-Move-clause-value : goal.returns-in-Move-clause-value
 unfolding judged_by spots

@@ -9,4 +9,4 @@ use Rattle.sense.proofs.attention.report.Goals as goal
 pub returns : goal.returns
 unfolding outcome after_attention changes change in_head put when
 returns c =
-    λ elements rest buffer later. rw (ne_eqb _ _ c.requires, c.told.ensures, c.attend.ensures, c.note.ensures, c.attention_of-codes.ensures)
+    λ elements rest buffer later. rw (ne_eqb _ _ c.requires.attentive, c.told.ensures, c.attend.ensures, c.note.ensures, c.attention_of-codes.ensures)
