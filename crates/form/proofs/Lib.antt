@@ -1,2 +1,3 @@
 pub mod Strays
 pub mod Lowest
+pub mod Masked
