@@ -59,7 +59,7 @@ fn stray(block: &[u8], masks: &[u8]) -> Option<usize>
 
 // The lowest byte of an operation's block that has a bit without a use. Each arm names its masks itself, so that the compiler tests those bytes alone that have such bits, and goes
 // through no list.
-#[tactic(auto, unfolding(operation::specs::Meaning::meaning))]
+#[tactic(auto, unfolding(operation::specs::Meaning::meaning, rules::specs::Form::unused, rules::specs::Form::stray, rules::specs::Form::stray_from))]
 fn unused(op: Operation, block: &[u8]) -> Option<usize>
     requires { Fitting op block.now }
     ensures { result ≡ byte_at (strayIn (unused (meaning op)) block.now) }
